@@ -1,0 +1,85 @@
+ghost use Rattle.std.specs.Prelude.{◌≡◌, ℕ, ◌<◌, ◌≤◌, ◌-◌, ◌^◌, ◌++◌, ◌∷◌, [], length, slice_get, IfOk, OnErr, OnOk, IsOk, IfNone, IfSome, Some, Contains, codes};
+
+use indexmap::IndexSet;
+use std::alloc::{AllocError, Global};
+use std::marker::Model;
+
+/// The number of a text in its table, from 0.
+#[derive(Clone, Copy, Debug, PartialEq, Eq, PartialOrd, Ord, Hash)]
+pub struct TextId(pub u32);
+
+/// A table of distinct texts, seen as their list.
+#[derive(Drop)]
+pub struct Texts {
+    alloc: Global,
+    texts: IndexSet<Vec<u8>>,
+}
+
+impl Model for Texts {
+    ghost use Rattle.std.specs.Prelude.{List, ℕ};
+    ghost use Rattle.mem_base.specs.Texts.{texts_of, IsTable};
+
+    ghost Value = { List (List ℕ) };
+
+    ghost view = { λ t. texts_of t.texts.keys };
+
+    ghost invariant = { λ t. IsTable (texts_of t.texts.keys) };
+}
+
+impl Texts {
+    ghost use Rattle.mem_base.specs.Texts.{unknown, interned, IsTable};
+
+    /// The table of the unknown text alone.
+    pub fn new(alloc: Global) -> Result<Texts, AllocError>
+        ensures { IfOk result (λ t. t ≡ unknown ∷ []) }
+    {
+        let mut texts = IndexSet::new(alloc);
+        texts.insert_full(Vec::from_slice(alloc, b"<unknown>")?)?;
+        Ok(Texts { alloc, texts })
+    }
+
+    /// The number of the text, which is added last where it is new.
+    pub fn intern(&mut self, text: &[u8]) -> Result<TextId, AllocError>
+        requires { length self.old < 2 ^ 32 - 1 }
+        ensures table { OnOk result (self.new ≡ interned self.old text.now) }
+        ensures number { IfOk result (λ id. slice_get self.new id.0 ≡ Some text.now) }
+        ensures err { OnErr result (self.new ≡ self.old) }
+    {
+        if let Some(at) = self.texts.get_index_of(text) {
+            return Ok(TextId(at as u32));
+        }
+        let owned = Vec::from_slice(self.alloc, text)?;
+        let (at, _) = self.texts.insert_full(owned)?;
+        Ok(TextId(at as u32))
+    }
+
+    /// How many texts there are. No text stands twice, and the first is the unknown one.
+    pub fn len(&self) -> usize
+        ensures count { result ≡ length self.now }
+        ensures table { IsTable self.now }
+    {
+        self.texts.len()
+    }
+
+    /// The text with that number.
+    pub fn get(&self, id: TextId) -> &[u8]
+        requires { id.0 < length self.now }
+        ensures { slice_get self.now id.0 ≡ Some result.now }
+    {
+        match self.texts.get_index(id.0 as usize) {
+            Some(text) => text.as_slice(),
+            None => unreachable!(),
+        }
+    }
+
+    /// The number of the text, where it is in the table.
+    pub fn find(&self, text: &[u8]) -> Option<TextId>
+        ensures found { IfSome result (λ id. slice_get self.now id.0 ≡ Some text.now) }
+        ensures absent { IfNone result ((i : ℕ) → slice_get self.now i ≡ Some text.now → ⊥) }
+    {
+        match self.texts.get_index_of(text) {
+            Some(at) => Some(TextId(at as u32)),
+            None => None,
+        }
+    }
+}
