@@ -1,0 +1,22 @@
+//! A block as the debug hooks lay it out. With n bytes of data at p:
+//!
+//! | Bytes | Hold |
+//! |---|---|
+//! | p-16 to p-9 | n, the greatest byte first |
+//! | p-8 | the letter of the block's domain: `r`, `m` or `o` |
+//! | p-7 to p-1 | FD |
+//! | p to p+n-1 | the data |
+//! | p+n to p+n+7 | FD |
+//!
+//! The size word is written once and cannot be reached; all that follows it is the block's body.
+//! The definitions in `specs/` say this in the words that the crates above cite.
+#![tactic(auto)]
+
+ghost use Rattle.std.specs.Prelude.{◌≡◌, ℕ, List, length};
+ghost use Rattle.block_model.specs.Block.{body_of, size_of};
+ghost use Rattle.mem_base.specs.declared.trace.Letter.{Letter};
+
+/// A body has as many bytes of data as it was made of.
+pub fn sizes_add_up()
+    ensures { (v : Letter) (bytes : List ℕ) → size_of (body_of v bytes) ≡ length bytes }
+{}
