@@ -1,0 +1,65 @@
+-- Histories of events.
+use Rattle.std.specs.Prelude.{◌≡◌, ◌⊎◌, ℕ, true, false, List, [], ◌∷◌, map, length, slice_index, None}
+use Rattle.mem_base.specs.declared.history.Entry.{Entry}
+use Rattle.mem_base.specs.declared.history.Grant.TheVariants as grant
+use Rattle.mem_base.specs.declared.history.Ask.TheVariants as ask
+use Rattle.mem_base.specs.declared.reply.Totals.{Totals}
+use Rattle.mem_base.specs.declared.reply.Counts.{Counts}
+use Rattle.trace_model.specs.Plain.{PlainTrack}
+use Rattle.event_model.specs.Blocks.{total_size}
+use Rattle.event_model.specs.Effects.{State}
+use Rattle.event_model.specs.Events.{is_ready, event}
+
+-- nothing is held, and nothing is done
+abbrev pub opening : List PlainTrack → State
+opening tracks = record { blocks = []; owner = None; done = map (λ t. 0) tracks; faulted = false }
+
+-- the state that events lead to
+abbrev pub state_after : List PlainTrack → State → List Entry → State
+state_after tracks s [] = s
+state_after tracks s (e ∷ es) = state_after tracks (event tracks s e).0 es
+
+-- the state at a history's end
+abbrev pub last_state : List PlainTrack → List Entry → State
+last_state tracks es = state_after tracks (opening tracks) es
+
+-- the entry may come next: no fault has come, its track is ready, it is at the operation that comes next,
+-- and its answers fit, since no operation asks a source yet
+pub record IsNext (tracks : List PlainTrack) (s : State) (e : Entry) : Type 0 where
+  pub no_fault : s.faulted ≡ false
+  pub ready : is_ready tracks s e.track ≡ true
+  pub at : e.at ≡ slice_index s.done e.track
+  pub arena : e.arena ≡ grant.NotAsked
+  pub raw : e.raw ≡ ask.NotAsked
+
+abbrev pub IsLegalFrom : List PlainTrack → State → List Entry → Type 0
+IsLegalFrom tracks s [] = Unit {0}
+IsLegalFrom tracks s (e ∷ es) = IsNext tracks s e × IsLegalFrom tracks (event tracks s e).0 es
+
+-- each entry may come after those before it
+abbrev pub IsLegal : List PlainTrack → List Entry → Type 0
+IsLegal tracks es = IsLegalFrom tracks (opening tracks) es
+
+-- no track is ready
+abbrev pub IsDone : List PlainTrack → State → Type 0
+IsDone tracks s = (t : ℕ) → is_ready tracks s t ≡ false
+
+-- at its end a fault has come, or no track is ready
+abbrev pub IsWhole : List PlainTrack → List Entry → Type 0
+IsWhole tracks es = (last_state tracks es).faulted ≡ true ⊎ IsDone tracks (last_state tracks es)
+
+-- no arena was asked for
+abbrev pub no_counts : Counts
+no_counts = record { given = 0; back = 0; out = 0; most = 0; pooled = 0 }
+
+-- the numbers of a history's summary
+abbrev pub totals_of : List PlainTrack → List Entry → Totals
+totals_of tracks es = let s = last_state tracks es in record {
+  events = length es;
+  owner = s.owner;
+  blocks = length s.blocks;
+  bytes = total_size s.blocks;
+  counts = no_counts;
+  traced = 0;
+  peak = 0;
+}

@@ -1,0 +1,12 @@
+-- Laws over histories.
+use Rattle.std.specs.Prelude.{◌≡◌, List, [], ◌∷◌, ◌++◌}
+use Rattle.mem_base.specs.declared.history.Entry.{Entry}
+use Rattle.trace_model.specs.Plain.{PlainTrack}
+use Rattle.event_model.specs.Events.{event}
+use Rattle.event_model.specs.History.{IsNext, IsLegal, last_state}
+
+abbrev pub OneMoreIsLegal : Type 0
+OneMoreIsLegal = (tracks : List PlainTrack) (es : List Entry) (e : Entry) → IsLegal tracks es → IsNext tracks (last_state tracks es) e → IsLegal tracks (es ++ e ∷ [])
+
+abbrev pub OneMoreState : Type 0
+OneMoreState = (tracks : List PlainTrack) (es : List Entry) (e : Entry) → last_state tracks (es ++ e ∷ []) ≡ (event tracks (last_state tracks es) e).0

@@ -1,0 +1,5 @@
+pub mod Blocks
+pub mod Effects
+pub mod Events
+pub mod History
+pub mod Laws
