@@ -1,5 +1,5 @@
 -- Tracks, and one event of them.
-use Rattle.std.specs.Prelude.{ℕ, ◌+◌, Bool, true, false, not, ◌&&◌, ◌||◌, if◌then◌else◌, List, slice_get, slice_set, slice_index, Option, Some, None, is_some}
+use Rattle.std.specs.Prelude.{ℕ, ◌+◌, ◌-◌, Bool, true, false, not, ◌&&◌, ◌||◌, if◌then◌else◌, List, [], ◌∷◌, length, slice_get, slice_set, slice_index, Option, Some, None, is_some}
 use Rattle.std.specs.Option.{option_and_then}
 use Rattle.mem_base.specs.declared.history.Entry.{Entry}
 use Rattle.trace_model.specs.Plain.{Action, acquire, PlainTrack}
@@ -50,3 +50,13 @@ event_of tracks s t (Some a) = settled tracks t (effect s t a)
 -- the next event of the entry's track
 unfoldable pub event : List PlainTrack → State → Entry → State × PlainReply
 event tracks s e = event_of tracks s e.track (next_action tracks s e.track)
+
+-- how many operations are left to do over all tracks, where each has done so many
+abbrev pub ops_left : List PlainTrack → List ℕ → ℕ
+ops_left [] done = 0
+ops_left (track ∷ tracks) [] = 0
+ops_left (track ∷ tracks) (d ∷ done) = (length track.actions - d) + ops_left tracks done
+
+-- what is left of a run: the operations, and the fault that may come
+abbrev pub left_in : List PlainTrack → State → ℕ
+left_in tracks s = ops_left tracks s.done + (if s.faulted then 0 else 1)

@@ -1,8 +1,8 @@
 -- Laws over histories.
-use Rattle.std.specs.Prelude.{◌≡◌, List, [], ◌∷◌, ◌++◌}
+use Rattle.std.specs.Prelude.{◌≡◌, ◌<◌, List, [], ◌∷◌, ◌++◌}
 use Rattle.mem_base.specs.declared.history.Entry.{Entry}
 use Rattle.trace_model.specs.Plain.{PlainTrack}
-use Rattle.event_model.specs.Events.{event}
+use Rattle.event_model.specs.Events.{event, left_in}
 use Rattle.event_model.specs.History.{IsNext, IsLegal, last_state}
 
 abbrev pub OneMoreIsLegal : Type 0
@@ -10,3 +10,7 @@ OneMoreIsLegal = (tracks : List PlainTrack) (es : List Entry) (e : Entry) → Is
 
 abbrev pub OneMoreState : Type 0
 OneMoreState = (tracks : List PlainTrack) (es : List Entry) (e : Entry) → last_state tracks (es ++ e ∷ []) ≡ (event tracks (last_state tracks es) e).0
+
+-- each event leaves less to do
+abbrev pub OneMoreLeavesLess : Type 0
+OneMoreLeavesLess = (tracks : List PlainTrack) (es : List Entry) (e : Entry) → IsNext tracks (last_state tracks es) e → left_in tracks (last_state tracks (es ++ e ∷ [])) < left_in tracks (last_state tracks es)

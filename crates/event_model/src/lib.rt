@@ -2,11 +2,12 @@
 //! The definitions stand in `specs/`, and here the laws over histories.
 #![tactic(auto)]
 
-ghost use Rattle.std.specs.Prelude.{◌≡◌, ◌∷◌, [], ◌++◌};
-ghost use Rattle.event_model.specs.Laws.{OneMoreIsLegal, OneMoreState};
+ghost use Rattle.event_model.specs.Laws.{OneMoreIsLegal, OneMoreState, OneMoreLeavesLess};
 
-/// A legal history with one more entry that may come next is legal, and leads to that entry's event.
+/// A legal history with one more entry that may come next is legal, leads to that entry's event, and
+/// leaves less to do.
 pub fn one_more_entry()
     ensures legal { OneMoreIsLegal }
     ensures state { OneMoreState }
+    ensures less { OneMoreLeavesLess }
 {}

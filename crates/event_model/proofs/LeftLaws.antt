@@ -1,0 +1,169 @@
+-- Each event leaves less to do.
+use Rattle.std.proofs.Common.{◌≡◌, ℕ, zero, suc, ◌+◌, ◌<◌, Bool, true, false, cond, List, [], ◌∷◌, ◌++◌, length, slice_get, set, map, Option, Some, None, ℤ, refl, sym, ap, subst, ◌∙◌, arith, length-set, true≢false}
+use Rattle.std.specs.Prelude.{slice_index, nat_lt}
+use Rattle.std.specs.Option.{option_and_then}
+use Rattle.std.proofs.lemmas.Option.{slice_get_within}
+use Rattle.mem_base.specs.declared.history.Entry.{Entry}
+use Rattle.mem_base.specs.declared.trace.Letter.{Letter}
+use Rattle.mem_base.specs.declared.reply.Fault.{Fault}
+use Rattle.trace_model.specs.Plain.{Name, Action, acquire, release, malloc, free, poke, peek, other, PlainTrack}
+use Rattle.block_model.specs.Block.{Body, finding_in, reaches, peeked, poked, fresh, new_byte}
+use Rattle.event_model.specs.Blocks.{find, put}
+use Rattle.event_model.specs.Effects.{State, PlainReply, ok, null, outside, held, not_held, bytes, unlocked, effect, made, given_up, checked, freed, written, read, is_owner, is_unlocked, max_size, max_data}
+use Rattle.event_model.specs.Events.{event, event_of, settled, advanced, is_fault, next_action, may_do, ops_left, left_in}
+use Rattle.event_model.specs.History.{opening, state_after, last_state, IsNext}
+use Rattle.event_model.proofs.HistoryLaws.{state_push}
+
+-- ---- what an operation leaves as it was
+
+record Keeps (s : State) (r : State × PlainReply) : Type 0 where
+  pub done : r.0.done ≡ s.done
+  pub faulted : r.0.faulted ≡ s.faulted
+
+made_keeps : (s : State) (v : Letter) (name : Name) (n : ℕ) (locked : Bool) (o : Option Body) → Keeps s (made s v name n locked o)
+made_keeps s v name n locked (Some block) = record { done = refl; faulted = refl }
+made_keeps s v name n locked None = by (nat_lt max_size n) (is_unlocked v locked) (nat_lt max_data n)
+  where
+    by : (great bare greater : Bool) → Keeps s (cond great (s, null) (cond bare (s, unlocked) (cond greater (s, null) (record s { blocks = put s.blocks name (fresh v n new_byte) }, ok))))
+    by true bare greater = record { done = refl; faulted = refl }
+    by false true greater = record { done = refl; faulted = refl }
+    by false false true = record { done = refl; faulted = refl }
+    by false false false = record { done = refl; faulted = refl }
+
+given_keeps : (s : State) (name : Name) (block : Body) (found : Option Fault) → Keeps s (given_up s name block found)
+given_keeps s name block None = record { done = refl; faulted = refl }
+given_keeps s name block (Some found) = record { done = refl; faulted = refl }
+
+checked_keeps : (s : State) (v : Letter) (name : Name) (o : Option Body) → Keeps s (checked s v name o)
+checked_keeps s v name None = record { done = refl; faulted = refl }
+checked_keeps s v name (Some block) = given_keeps s name block (finding_in v block)
+
+freed_keeps : (s : State) (v : Letter) (name : Name) (locked : Bool) (o : Option Body) → Keeps s (freed s v name locked o)
+freed_keeps s v name locked o = by (is_unlocked v locked)
+  where
+    by : (b : Bool) → Keeps s (cond b (s, unlocked) (checked s v name o))
+    by true = record { done = refl; faulted = refl }
+    by false = checked_keeps s v name o
+
+written_keeps : (s : State) (name : Name) (offset : ℤ) (new : List ℕ) (o : Option Body) → Keeps s (written s name offset new o)
+written_keeps s name offset new None = record { done = refl; faulted = refl }
+written_keeps s name offset new (Some block) = by (reaches block offset (length new))
+  where
+    by : (b : Bool) → Keeps s (cond b (record s { blocks = put s.blocks name (poked block offset new) }, ok) (s, outside))
+    by true = record { done = refl; faulted = refl }
+    by false = record { done = refl; faulted = refl }
+
+read_keeps : (s : State) (offset : ℤ) (count : ℕ) (o : Option Body) → Keeps s (read s offset count o)
+read_keeps s offset count None = record { done = refl; faulted = refl }
+read_keeps s offset count (Some block) = by (reaches block offset count)
+  where
+    by : (b : Bool) → Keeps s (cond b (s, bytes (peeked block offset count)) (s, outside))
+    by true = record { done = refl; faulted = refl }
+    by false = record { done = refl; faulted = refl }
+
+lock_keeps : (s : State) (b : Bool) (owner : Option ℕ) → Keeps s (cond b (s, held) (record s { owner = owner }, ok))
+lock_keeps s true owner = record { done = refl; faulted = refl }
+lock_keeps s false owner = record { done = refl; faulted = refl }
+
+unlock_keeps : (s : State) (b : Bool) (owner : Option ℕ) → Keeps s (cond b (record s { owner = owner }, ok) (s, not_held))
+unlock_keeps s true owner = record { done = refl; faulted = refl }
+unlock_keeps s false owner = record { done = refl; faulted = refl }
+
+effect_keeps : (s : State) (t : ℕ) (a : Action) → Keeps s (effect s t a)
+effect_keeps s t acquire = lock_keeps s (is_owner s.owner t) (Some t)
+effect_keeps s t release = unlock_keeps s (is_owner s.owner t) None
+effect_keeps s t (malloc v name n) = made_keeps s v name n (is_owner s.owner t) (find s.blocks name)
+effect_keeps s t (free v name) = freed_keeps s v name (is_owner s.owner t) (find s.blocks name)
+effect_keeps s t (poke name offset new) = written_keeps s name offset new (find s.blocks name)
+effect_keeps s t (peek name offset count) = read_keeps s offset count (find s.blocks name)
+effect_keeps s t other = record { done = refl; faulted = refl }
+
+-- ---- as many tracks as there were
+
+abbrev chosen : List PlainTrack → ℕ → State × PlainReply → Bool → State × PlainReply
+chosen tracks t r b = cond b (record r.0 { faulted = true }, r.1) (advanced tracks t r.0, r.1)
+
+chosen_length : (tracks : List PlainTrack) (t : ℕ) (r : State × PlainReply) (b : Bool) → length (chosen tracks t r b).0.done ≡ length r.0.done
+chosen_length tracks t r true = refl
+chosen_length tracks t r false = length-set r.0.done t (slice_index r.0.done t + 1)
+
+settled_length : (tracks : List PlainTrack) (t : ℕ) (r : State × PlainReply) → length (settled tracks t r).0.done ≡ length r.0.done
+settled_length tracks t r = chosen_length tracks t r (is_fault r.1)
+
+event_length : (tracks : List PlainTrack) (s : State) (e : Entry) → length (event tracks s e).0.done ≡ length s.done
+unfolding event
+event_length tracks s e = by (next_action tracks s e.track)
+  where
+    by : (o : Option Action) → length (event_of tracks s e.track o).0.done ≡ length s.done
+    by None = refl
+    by (Some a) = settled_length tracks e.track (effect s e.track a) ∙ ap length (effect_keeps s e.track a).done
+
+after_length : (tracks : List PlainTrack) (s : State) (es : List Entry) → length (state_after tracks s es).done ≡ length s.done
+after_length tracks s [] = refl
+after_length tracks s (e ∷ es) = after_length tracks (event tracks s e).0 es ∙ event_length tracks s e
+
+abbrev none_done : List PlainTrack → List ℕ
+none_done tracks = map (λ t. 0) tracks
+
+map_length : (tracks : List PlainTrack) → length (none_done tracks) ≡ length tracks
+map_length [] = refl
+map_length (t ∷ ts) = ap suc (map_length ts)
+
+pub done_length : (tracks : List PlainTrack) (es : List Entry) → length (last_state tracks es).done ≡ length tracks
+done_length tracks es = after_length tracks (opening tracks) es ∙ map_length tracks
+
+-- ---- one operation less
+
+ops_less : (ts : List PlainTrack) (ds : List ℕ) (t : ℕ) (track : PlainTrack) → slice_get ts t ≡ Some track → t < length ds → slice_index ds t < length track.actions
+    → ops_left ts (set ds t (slice_index ds t + 1)) + 1 ≡ ops_left ts ds
+ops_less [] ds t track is lt some = absurd cc
+ops_less (x ∷ ts) [] t track is lt some = absurd (omega arith)
+ops_less (x ∷ ts) (d ∷ ds) zero track is lt some =
+    let same : x ≡ track = cc in
+    let len : length x.actions ≡ length track.actions = ap (λ (y : PlainTrack). length y.actions) same in
+    omega (arith, len, some)
+ops_less (x ∷ ts) (d ∷ ds) (suc t) track is lt some = omega (arith, ops_less ts ds t track is (omega arith) some)
+
+waits : (owner : Option ℕ) (t : ℕ) (o : Option Action) → may_do owner t o ≡ true → (a : Action) × (o ≡ Some a)
+waits owner t None h = absurd (true≢false (sym h))
+waits owner t (Some a) h = (a, refl)
+
+at_track : (o : Option PlainTrack) (d : ℕ) (a : Action) → option_and_then (λ track. slice_get track.actions d) o ≡ Some a → (track : PlainTrack) × (o ≡ Some track) × (slice_get track.actions d ≡ Some a)
+at_track None d a h = absurd cc
+at_track (Some track) d a h = (track, refl, h)
+
+-- what a fault that may come still weighs
+abbrev weight : Bool → ℕ
+weight b = cond b 0 1
+
+-- what is left where one operation is done, or a fault comes
+less : (tracks : List PlainTrack) (s : State) (t : ℕ) (a : Action) → s.faulted ≡ false → length s.done ≡ length tracks → next_action tracks s t ≡ Some a
+    → left_in tracks (settled tracks t (effect s t a)).0 < left_in tracks s
+less tracks s t a sound same is =
+    let r = effect s t a in
+    let keeps = effect_keeps s t a in
+    let there = at_track (slice_get tracks t) (slice_index s.done t) a is in
+    let within : t < length s.done = omega (arith, same, slice_get_within tracks t there.0 there.1) in
+    let some : slice_index s.done t < length there.0.actions = slice_get_within there.0.actions (slice_index s.done t) a there.2 in
+    let fewer = ops_less tracks s.done t there.0 there.1 within some in
+    let before : weight s.faulted ≡ 1 = ap weight sound in
+    let unfaulted : weight r.0.faulted ≡ 1 = ap weight (keeps.faulted ∙ sound) in
+    let done_is : ops_left tracks r.0.done ≡ ops_left tracks s.done = ap (ops_left tracks) keeps.done in
+    let later : ops_left tracks (set r.0.done t (slice_index r.0.done t + 1)) ≡ ops_left tracks (set s.done t (slice_index s.done t + 1)) = ap (λ (d : List ℕ). ops_left tracks (set d t (slice_index d t + 1))) keeps.done in
+    by r (is_fault r.1) before unfaulted done_is later fewer
+  where
+    by : (r : State × PlainReply) (b : Bool) → weight s.faulted ≡ 1 → weight r.0.faulted ≡ 1 → ops_left tracks r.0.done ≡ ops_left tracks s.done
+        → ops_left tracks (set r.0.done t (slice_index r.0.done t + 1)) ≡ ops_left tracks (set s.done t (slice_index s.done t + 1))
+        → ops_left tracks (set s.done t (slice_index s.done t + 1)) + 1 ≡ ops_left tracks s.done
+        → left_in tracks (chosen tracks t r b).0 < left_in tracks s
+    by r true before unfaulted done_is later fewer = omega (arith, before, done_is)
+    by r false before unfaulted done_is later fewer = omega (arith, before, unfaulted, later, fewer)
+
+pub leaves_less : (tracks : List PlainTrack) (es : List Entry) (e : Entry) → IsNext tracks (last_state tracks es) e → left_in tracks (last_state tracks (es ++ e ∷ [])) < left_in tracks (last_state tracks es)
+unfolding event
+leaves_less tracks es e next =
+    let s = last_state tracks es in
+    let w = waits s.owner e.track (next_action tracks s e.track) next.ready in
+    let then_is : last_state tracks (es ++ e ∷ []) ≡ (settled tracks e.track (effect s e.track w.0)).0 =
+    state_push tracks (opening tracks) es e ∙ ap (λ (o : Option Action). (event_of tracks s e.track o).0) w.1 in
+    subst (λ (x : State). left_in tracks x < left_in tracks s) (sym then_is) (less tracks s e.track w.0 next.no_fault (done_length tracks es) w.1)
