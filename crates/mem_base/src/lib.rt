@@ -5,6 +5,8 @@ mod history;
 pub mod limits;
 mod list;
 mod reply;
+#[cfg(test)]
+mod tests;
 mod texts;
 mod trace;
 

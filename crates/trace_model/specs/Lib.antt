@@ -1,1 +1,5 @@
 pub mod Plain
+pub mod Spelling
+pub mod Cause
+pub mod Reading
+pub mod Known

@@ -1,8 +1,23 @@
 //! What a recorded trace is: its operations with their names written out, its one spelling, and the
-//! first fault of bytes that spell none. The definitions stand in `specs/`.
+//! first fault of bytes that spell none. The definitions stand in `specs/`; the functions here are
+//! the laws that tie them together.
+//!
+//! A trace is lines of words. The first line is `pymtrace 1`, then comes a line `track NAME`, and
+//! then a line for each of the track's operations:
+//!
+//! | Line | Operands |
+//! |---|---|
+//! | `acquire`, `release` | none |
+//! | `malloc D NAME NUM` | domain, block, size |
+//! | `free D NAME` | domain, block |
+//! | `poke NAME OFF HEX` | block, offset from -8 on, 1 to 1024 bytes |
+//! | `peek NAME OFF NUM` | block, offset from -8 on, 1 to 1024 |
 #![tactic(auto)]
 
-ghost use Rattle.std.specs.Prelude.{◌≡◌, ℕ, List};
+mod cause;
+mod keyword;
+mod laws;
 
-/// Placeholder.
-pub fn meant() {}
+pub use cause::TraceCause;
+pub use keyword::Keyword;
+pub use laws::{read_where_spelt, spelt_once};

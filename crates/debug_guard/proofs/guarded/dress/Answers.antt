@@ -1,0 +1,15 @@
+use Rattle.std.proofs.Common.{◌≡◌, ap, length, arith, if◌then◌else◌}
+use Rattle.debug_guard.specs.Guard.{size_word}
+use Rattle.block_model.specs.Block.{fresh, new_byte}
+use Rattle.debug_guard.proofs.GuardLemmas.{dressed, IsDressed, length-size_word, length-fresh}
+use Rattle.debug_guard.proofs.guarded.dress.Goals as goal
+
+pub invariant_of-result : goal.invariant_of-result
+invariant_of-result c =
+    let d = dressed _ _ _ _ _ _ c.args.n (length-size_word c.args.n) (length-fresh c.args.letter c.args.n c.first_byte.result) c.bytes_mut.ensures.value c.write_block.auto.bytes c.write_block.ensures in
+    (d.word_is, omega (arith, d.room_is), omega (arith, d.room_is, c.bytes_mut.type_inv, c.bytes_mut.ensures.value, ap length c.bytes_mut.ensures.value))
+
+pub returns : goal.returns
+returns c =
+    let d = dressed _ _ _ _ _ _ c.args.n (length-size_word c.args.n) (length-fresh c.args.letter c.args.n c.first_byte.result) c.bytes_mut.ensures.value c.write_block.auto.bytes c.write_block.ensures in
+    rw (d.body_is, d.room_is, c.first_byte.ensures)

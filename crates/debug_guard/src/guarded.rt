@@ -1,0 +1,139 @@
+ghost use Rattle.std.specs.Prelude.{◌≡◌, ◌+◌, ◌-◌, ◌<◌, ◌≤◌, ◌++◌, ◌^◌, length, take, drop, replicate, if◌then◌else◌};
+ghost use Rattle.debug_guard.specs.Guard.{size_word};
+ghost use Rattle.block_model.specs.Block.{fresh, new_byte, dead_byte, size_of, image_of};
+
+use crate::Piece;
+use mem_base::Letter;
+use std::marker::Model;
+
+/// What a byte of a pad holds.
+pub(crate) const PAD: u8 = 0xFD;
+
+/// What a byte of new data holds.
+const NEW: u8 = 0xCD;
+
+/// What a byte of a freed block holds.
+const DEAD: u8 = 0xDD;
+
+/// A block inside a piece. It cannot be dropped: `kill` gives its piece back.
+pub struct Guarded {
+    piece: Piece,
+    size: u64,
+}
+
+impl Model for Guarded {
+    ghost use Rattle.std.specs.Prelude.{◌≡◌, ◌+◌, ◌≤◌, ◌<◌, ◌^◌, take, drop, length};
+    ghost use Rattle.debug_guard.specs.Guard.{Guard, size_word};
+
+    ghost Value = { Guard };
+
+    ghost view = { λ g. record { body = take (g.size + 16) (drop 8 g.piece); room = length g.piece } };
+
+    ghost invariant = { λ g. (take 8 g.piece ≡ size_word g.size) × (g.size + 24 ≤ length g.piece) × (length g.piece < 2 ^ 63) };
+}
+
+/// Writes a new block for a call with this letter: its size word, its letter and pads, and n bytes
+/// of data, which hold 00 where `zero` says so and else CD.
+pub fn dress(mut piece: Piece, letter: Letter, n: u64, zero: bool) -> Guarded
+    requires { n + 24 ≤ length piece }
+    ensures { result ≡ record { body = fresh letter n (if zero then 0 else new_byte); room = length piece } }
+{
+    write_block(piece.bytes_mut(), letter, n, first_byte(zero));
+    Guarded { piece, size: n }
+}
+
+// What a byte of new data holds.
+fn first_byte(zero: bool) -> u8
+    ensures { result ≡ (if zero then 0 else new_byte) }
+{
+    if zero { 0 } else { NEW }
+}
+
+// A new block at the start of these bytes; those behind it stay.
+fn write_block(bytes: &mut [u8], letter: Letter, n: u64, new: u8)
+    requires { n + 24 ≤ length bytes.old }
+    ensures { bytes.new ≡ size_word n ++ fresh letter n new ++ drop (n + 24) bytes.old }
+{
+    let (block, _) = bytes.split_at_mut(n as usize + 24);
+    let (word, body) = block.split_at_mut(8);
+    write_size(word, n);
+    write_body(body, letter, new);
+}
+
+#[tactic(auto, unfolding(crate::specs::Guard::size_word))]
+fn write_size(word: &mut [u8], n: u64)
+    requires { length word.old ≡ 8 }
+    ensures { word.new ≡ size_word n }
+{
+    word.copy_from_slice(&n.to_be_bytes());
+}
+
+#[tactic(auto, unfolding(block_model::specs::Block::body_of))]
+fn write_body(body: &mut [u8], letter: Letter, new: u8)
+    requires { 16 ≤ length body.old }
+    ensures { body.new ≡ fresh letter (length body.old - 16) new }
+{
+    let (head, rest) = body.split_at_mut(8);
+    let (data, tail) = rest.split_at_mut(rest.len() - 8);
+    head.fill(PAD);
+    head[0] = letter.byte();
+    data.fill(new);
+    tail.fill(PAD);
+}
+
+/// Fills the piece with DD and gives it back.
+pub fn kill(g: Guarded) -> Piece
+    ensures { result ≡ replicate g.room dead_byte }
+{
+    let Guarded { mut piece, size: _ } = g;
+    piece.bytes_mut().fill(DEAD);
+    piece
+}
+
+/// How many bytes of data the block has.
+pub fn size(g: &Guarded) -> u64
+    ensures data { result ≡ size_of g.now.body }
+    ensures body { result + 16 ≡ length g.now.body }
+    ensures room { result + 24 ≤ g.now.room }
+    ensures small { result < 2 ^ 63 }
+{
+    g.size
+}
+
+/// The piece that the block lies in, for reading.
+#[tactic(auto, unfolding(crate::specs::Guard::size_word))]
+pub fn piece(g: &Guarded) -> &Piece
+    ensures image { take (length g.now.body + 8) result.now ≡ image_of g.now.body }
+    ensures room { length result.now ≡ g.now.room }
+{
+    &g.piece
+}
+
+impl Guarded {
+    /// The block's body.
+    pub(crate) fn body(&self) -> &[u8]
+        ensures bytes { result.now ≡ self.now.body }
+        ensures long { 16 ≤ length result.now }
+    {
+        let bytes = self.piece.bytes();
+        &bytes[8..self.size as usize + 24]
+    }
+
+    /// Writes over the body from this place on.
+    pub(crate) fn write(&mut self, at: usize, bytes: &[u8])
+        requires { at + length bytes.now ≤ length self.old.body }
+        ensures { self.new ≡ record { body = take at self.old.body ++ bytes.now ++ drop (at + length bytes.now) self.old.body; room = self.old.room } }
+    {
+        let size = self.size as usize;
+        let (_, rest) = self.piece.bytes_mut().split_at_mut(8);
+        write_at(&mut rest[..size + 16], at, bytes);
+    }
+}
+
+// Writes these bytes over a part of the body.
+fn write_at(body: &mut [u8], at: usize, bytes: &[u8])
+    requires { at + length bytes.now ≤ length body.old }
+    ensures { body.new ≡ take at body.old ++ bytes.now ++ drop (at + length bytes.now) body.old }
+{
+    body[at..at + bytes.len()].copy_from_slice(bytes);
+}

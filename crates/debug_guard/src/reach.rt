@@ -1,0 +1,51 @@
+ghost use Rattle.std.specs.Prelude.{◌≡◌, IsTrue, false, Some, None, if◌then◌else◌, length};
+ghost use Rattle.std.specs.Option.{option_copied};
+ghost use Rattle.block_model.specs.Block.{IsOffset, place_of, reaches, peeked, poked};
+
+use crate::Guarded;
+
+/// Writes these bytes at an offset from the data's start, and answers whether they lie in the
+/// block's letter, pads and data.
+pub fn poke(g: &mut Guarded, off: i64, bytes: &[u8]) -> bool
+    requires { IsOffset off }
+    ensures reach { result ≡ reaches g.old.body off (length bytes.now) }
+    ensures written { IsTrue result → g.new ≡ record { body = poked g.old.body off bytes.now; room = g.old.room } }
+    ensures outside { result ≡ false → g.new ≡ g.old }
+    ensures size { length g.new.body ≡ length g.old.body }
+{
+    let at = place(off);
+    let end = g.body().len();
+    if at <= end && bytes.len() <= end - at {
+        g.write(at, bytes);
+        true
+    } else {
+        false
+    }
+}
+
+/// So many bytes from an offset from the data's start on, where they lie in the block's letter,
+/// pads and data.
+pub fn peek(g: &Guarded, off: i64, len: u64) -> Option<&[u8]>
+    requires { IsOffset off }
+    ensures { option_copied result ≡ (if reaches g.now.body off len then Some (peeked g.now.body off len) else None) }
+{
+    let at = place(off);
+    let body = g.body();
+    if at <= body.len() && len <= (body.len() - at) as u64 {
+        Some(&body[at..at + len as usize])
+    } else {
+        None
+    }
+}
+
+// Where in the body an offset from the data's start lies.
+fn place(off: i64) -> usize
+    requires { IsOffset off }
+    ensures { result ≡ place_of off }
+{
+    if off < 0 {
+        8 - off.unsigned_abs() as usize
+    } else {
+        off as usize + 8
+    }
+}

@@ -1,0 +1,263 @@
+-- One event more: the state, and that the history stays legal.
+use Rattle.std.proofs.Common.{◌≡◌, ℕ, zero, suc, ◌+◌, ◌-◌, ◌^◌, ◌<◌, ◌≤◌, Bool, true, false, cond, List, [], ◌∷◌, ◌++◌, length, get_or, slice_get, slice_set, set, map, Option, Some, None, refl, sym, ap, subst, ◌∙◌, arith, length-set, length-append, take, replicate}
+use Rattle.std.specs.Prelude.{unwrap_or, slice_index, IfSome, IfNone, sum_by}
+use Rattle.std.specs.Option.{option_map, option_and_then}
+use Rattle.std.proofs.lemmas.Option.{slice_get_within, slice_get-map, slice_get-get_or, slice_get_past}
+use Rattle.std.proofs.Math.Seq.{take-append_seam}
+use Rattle.std.proofs.lemmas.List.{length-replicate}
+use Rattle.std.proofs.lemmas.List.Sums.{sum_by-cons}
+use Rattle.mem_base.specs.Texts.{IsDistinct}
+use Rattle.mem_base.specs.declared.history.Entry.{Entry}
+use Rattle.mem_base.specs.declared.history.Grant.TheVariants as grant
+use Rattle.mem_base.specs.declared.history.Ask.TheVariants as ask
+use Rattle.mem_base.specs.declared.trace.Op.{Op}
+use Rattle.mem_base.specs.declared.trace.Trace.{Trace}
+use Rattle.mem_base.specs.declared.trace.Track.{Track}
+use Rattle.trace_model.specs.Known.{op_at, IsKnownTrace}
+use Rattle.trace_model.specs.Plain.{Name, Action, PlainTrack, track_of, tracks_of, action_of, plain}
+use Rattle.block_model.specs.Block.{Body}
+use Rattle.event_model.specs.Effects.{State, PlainReply, effect}
+use Rattle.event_model.specs.Events.{event, event_of, settled, advanced, is_fault, let_go, action_after, next_action, may_do, is_ready}
+use Rattle.event_model.specs.History.{opening, state_after, last_state, IsNext, IsLegal}
+use Rattle.event_model.proofs.HistoryLaws.{state_push, legal_push}
+use Rattle.machine_core.specs.declared.change.Change.{Change}
+use Rattle.machine_core.specs.declared.change.Change.TheVariants as changes
+use Rattle.machine_core.specs.Change.{changed, CanMake, slots_after, owner_after}
+use Rattle.machine_core.specs.Slots.{Holds, count_in, size_in}
+use Rattle.machine_core.specs.Stands.{Stands}
+use Rattle.machine_core.proofs.SlotLemmas.{changed_holds}
+
+-- the next action is the next operation, with its name written out
+pub action_is : (texts : List Name) (ts : List Track) (t at : ℕ) → action_after (tracks_of texts ts) t at ≡ option_map (action_of texts) (option_and_then (λ track. slice_get track.ops at) (slice_get ts t))
+action_is texts ts t at = ap (option_and_then (λ track. slice_get track.actions at)) (slice_get-map (track_of texts) ts t) ∙ by (slice_get ts t)
+  where
+    by : (o : Option Track) → option_and_then (λ track. slice_get track.actions at) (option_map (track_of texts) o) ≡ option_map (action_of texts) (option_and_then (λ track. slice_get track.ops at) o)
+    by None = refl
+    by (Some track) = slice_get-map (action_of texts) track.ops at
+
+changed_done : (texts : List Name) (s : State) (change : Change) → (changed texts s change).done ≡ s.done
+changed_done texts s changes.Nothing = refl
+changed_done texts s (changes.Put name block) = refl
+changed_done texts s (changes.Remove name) = refl
+changed_done texts s (changes.Write name offset new) = refl
+changed_done texts s (changes.Lock owner) = refl
+
+changed_owner : (texts : List Name) (s : State) (change : Change) → (changed texts s change).owner ≡ owner_after s.owner change
+changed_owner texts s changes.Nothing = refl
+changed_owner texts s (changes.Put name block) = refl
+changed_owner texts s (changes.Remove name) = refl
+changed_owner texts s (changes.Write name offset new) = refl
+changed_owner texts s (changes.Lock owner) = refl
+
+some_of : {A B : Type 0} (f : A → Option B) (o : Option A) (b : B) → option_and_then f o ≡ Some b → (a : A) × (o ≡ Some a)
+some_of f None b e = absurd cc
+some_of f (Some a) b e = (a, refl)
+
+changed_fault : (texts : List Name) (s : State) (change : Change) → (changed texts s change).faulted ≡ s.faulted
+changed_fault texts s changes.Nothing = refl
+changed_fault texts s (changes.Put name block) = refl
+changed_fault texts s (changes.Remove name) = refl
+changed_fault texts s (changes.Write name offset new) = refl
+changed_fault texts s (changes.Lock owner) = refl
+
+abbrev tracks : Trace → List PlainTrack
+tracks trace = (plain trace).tracks
+
+-- ---- what a settled event leaves
+
+module _ (ts : List PlainTrack) (t : ℕ) (s : State) (reply : PlainReply) where
+  abbrev chosen : Bool → State × PlainReply
+  chosen b = cond b (record s { faulted = true }, reply) (advanced ts t s, reply)
+
+  abbrev next_done : List ℕ
+  next_done = set s.done t (slice_index s.done t + 1)
+
+  abbrev next_owner : Option ℕ
+  next_owner = let_go ts t (slice_index s.done t + 1) s.owner
+
+  chosen_reply : (b : Bool) → (chosen b).1 ≡ reply
+  chosen_reply true = refl
+  chosen_reply false = refl
+
+  chosen_blocks : (b : Bool) → (chosen b).0.blocks ≡ s.blocks
+  chosen_blocks true = refl
+  chosen_blocks false = refl
+
+  chosen_owner : (b : Bool) → (chosen b).0.owner ≡ cond b s.owner next_owner
+  chosen_owner true = refl
+  chosen_owner false = refl
+
+  chosen_done : (b : Bool) → (chosen b).0.done ≡ cond b s.done next_done
+  chosen_done true = refl
+  chosen_done false = refl
+
+  chosen_fault : s.faulted ≡ false → (b : Bool) → (chosen b).0.faulted ≡ b
+  chosen_fault sound true = refl
+  chosen_fault sound false = sound
+
+  abbrev after : State
+  after = (settled ts t (s, reply)).0
+
+  settled_reply : (settled ts t (s, reply)).1 ≡ reply
+  settled_reply = chosen_reply (is_fault reply)
+
+  settled_blocks : after.blocks ≡ s.blocks
+  settled_blocks = chosen_blocks (is_fault reply)
+
+  settled_owner : after.owner ≡ cond (is_fault reply) s.owner next_owner
+  settled_owner = chosen_owner (is_fault reply)
+
+  settled_done : after.done ≡ cond (is_fault reply) s.done next_done
+  settled_done = chosen_done (is_fault reply)
+
+  settled_fault : s.faulted ≡ false → after.faulted ≡ is_fault reply
+  settled_fault sound = chosen_fault sound (is_fault reply)
+
+-- what is known before an event: the operation, and what preparing it answered
+module _ (trace : Trace) (es : List Entry) (slots : List (Option Body)) (owner : Option ℕ) (done : List ℕ) (faulted : Bool) (t at : ℕ) (op : Op) (change : Change) (reply : PlainReply)
+    (stands : Stands trace es slots owner done faulted) (here : at ≡ get_or done t at) (is_op : op_at trace.tracks t at ≡ Some op) where
+  abbrev now : State
+  now = last_state (tracks trace) es
+
+  pub within : t < length done
+  within =
+      let there = some_of (λ (track : Track). slice_get track.ops at) (slice_get trace.tracks t) op is_op in
+      omega (arith, slice_get_within trace.tracks t there.0 there.1, stands.tracks)
+
+  pub here_is : at ≡ slice_index done t
+  here_is =
+      let e : Some (get_or done t at) ≡ Some (get_or done t 0) = sym (slice_get-get_or done t at within) ∙ slice_get-get_or done t 0 within in
+      let same : get_or done t at ≡ get_or done t 0 = cc in
+      here ∙ same
+
+  place_is : at ≡ slice_index now.done t
+  place_is = here_is ∙ ap (λ (d : List ℕ). slice_index d t) stands.done_is
+
+  pub next_is : next_action (tracks trace) now t ≡ Some (action_of trace.texts op)
+  next_is = ap (action_after (tracks trace) t) (sym place_is) ∙ action_is trace.texts trace.tracks t at ∙ ap (option_map (action_of trace.texts)) is_op
+
+  module _ (does : effect now t (action_of trace.texts op) ≡ (changed trace.texts now change, reply)) (e : Entry) (its_track : e.track ≡ t) where
+    abbrev then : State
+    then = changed trace.texts now change
+
+    pub event_is : event (tracks trace) now e ≡ settled (tracks trace) t (then, reply)
+    unfolding event
+    event_is =
+        ap (λ (u : ℕ). event_of (tracks trace) now u (next_action (tracks trace) now u)) its_track
+        ∙ ap (event_of (tracks trace) now t) next_is ∙ ap (settled (tracks trace) t) does
+
+    pub reply_is : reply ≡ (event (tracks trace) now e).1
+    reply_is = sym (ap (λ (r : State × PlainReply). r.1) event_is ∙ settled_reply (tracks trace) t then reply)
+
+    module _ (its_place : e.at ≡ at) (no_arena : e.arena ≡ grant.NotAsked) (no_raw : e.raw ≡ ask.NotAsked)
+        (ready : is_ready (tracks trace) now t ≡ true) (sound : faulted ≡ false) where
+      pub is_next : IsNext (tracks trace) now e
+      is_next = record {
+        no_fault = sym stands.fault_is ∙ sound;
+        ready = ap (is_ready (tracks trace) now) its_track ∙ ready;
+        at = its_place ∙ place_is ∙ ap (slice_index now.done) (sym its_track);
+        arena = no_arena;
+        raw = no_raw;
+      }
+
+      module _ (may : CanMake slots change) (news : List (Option Body)) (stored : news ≡ slots_after slots change)
+          (owner' : Option ℕ) (owned : owner' ≡ cond (is_fault reply) (owner_after owner change) (let_go (tracks trace) t (slice_index done t + 1) (owner_after owner change)))
+          (done' : List ℕ) (did : done' ≡ cond (is_fault reply) done (set done t (slice_index done t + 1)))
+          (faulted' : Bool) (fell : faulted' ≡ is_fault reply) where
+        then_is : last_state (tracks trace) (es ++ e ∷ []) ≡ (settled (tracks trace) t (then, reply)).0
+        then_is = state_push (tracks trace) (opening (tracks trace)) es e ∙ ap (λ (r : State × PlainReply). r.0) event_is
+
+        then_done : then.done ≡ done
+        then_done = changed_done trace.texts now change ∙ sym stands.done_is
+
+        then_owner : then.owner ≡ owner_after owner change
+        then_owner = changed_owner trace.texts now change ∙ ap (λ (o : Option ℕ). owner_after o change) (sym stands.owner_is)
+
+        length_kept : (b : Bool) (n : ℕ) → length (cond b done (set done t n)) ≡ length done
+        length_kept true n = refl
+        length_kept false n = length-set done t n
+
+        pub stands_then : Stands trace (es ++ e ∷ []) news owner' done' faulted'
+        stands_then = record {
+          legal = legal_push (tracks trace) (opening (tracks trace)) es e stands.legal is_next;
+          distinct = stands.distinct;
+          known = stands.known;
+          tracks = ap length did ∙ length_kept (is_fault reply) (slice_index done t + 1) ∙ stands.tracks;
+          blocks_are = subst (λ (st : State). Holds trace.texts news st.blocks) (sym then_is)
+              (subst (Holds trace.texts news) (sym (settled_blocks (tracks trace) t then reply))
+              (subst (λ (l : List (Option Body)). Holds trace.texts l then.blocks) (sym stored)
+              (changed_holds trace.texts slots now change stands.distinct stands.blocks_are may)));
+          owner_is = owned
+              ∙ sym (λ i. cond (is_fault reply) (then_owner i) (let_go (tracks trace) t (slice_index (then_done i) t + 1) (then_owner i)))
+              ∙ sym (settled_owner (tracks trace) t then reply)
+              ∙ ap (λ (st : State). st.owner) (sym then_is);
+          done_is = did
+              ∙ sym (λ i. cond (is_fault reply) (then_done i) (set (then_done i) t (slice_index (then_done i) t + 1)))
+              ∙ sym (settled_done (tracks trace) t then reply)
+              ∙ ap (λ (st : State). st.done) (sym then_is);
+          fault_is = fell
+              ∙ sym (settled_fault (tracks trace) t then reply (changed_fault trace.texts now change ∙ sym stands.fault_is ∙ sound))
+              ∙ ap (λ (st : State). st.faulted) (sym then_is);
+        }
+
+abbrev none_held : Option Body
+none_held = None
+
+none_at : (n i : ℕ) → i < n → slice_get (replicate n none_held) i ≡ Some none_held
+none_at zero i lt = absurd (omega arith)
+none_at (suc n) zero lt = refl
+none_at (suc n) (suc i) lt = none_at n i (omega arith)
+
+zeros_are : (texts : List Name) (ts : List Track) → replicate {A = ℕ} (length ts) 0 ≡ map (λ (t : PlainTrack). 0) (tracks_of texts ts)
+zeros_are texts [] = refl
+zeros_are texts (t ∷ ts) = ap (λ (l : List ℕ). 0 ∷ l) (zeros_are texts ts)
+
+no_sum : (f : Option Body → ℕ) → f None ≡ 0 → (n : ℕ) → sum_by f (replicate n none_held) ≡ 0
+no_sum f none zero = refl
+no_sum f none (suc n) = omega (arith, none, no_sum f none n, sum_by-cons f none_held (replicate n none_held))
+
+-- a machine at the start
+pub opening_stands : (trace : Trace) (es : List Entry) (slots : List (Option Body)) (done : List ℕ) → IsDistinct trace.texts → IsKnownTrace trace → es ≡ [] → slots ≡ replicate (length trace.texts) None → done ≡ replicate {A = ℕ} (length trace.tracks) 0
+    → Stands trace es slots None done false
+opening_stands trace es slots done distinct known empty empty_slots zeros =
+    subst (λ (x : List Entry). Stands trace x slots None done false) (sym empty) (record {
+      legal = tt;
+      distinct = distinct;
+      known = known;
+      tracks = ap length zeros ∙ length-replicate (length trace.tracks) 0;
+      blocks_are = record {
+        size = ap length empty_slots ∙ length-replicate (length trace.texts) none_held;
+        each = λ i name is. ap (λ (l : List (Option Body)). slice_get l i) empty_slots ∙ none_at (length trace.texts) i (slice_get_within trace.texts i name is);
+        distinct = tt;
+        count = sym (ap (sum_by count_in) empty_slots ∙ no_sum count_in refl (length trace.texts));
+        bytes = sym (ap (sum_by size_in) empty_slots ∙ no_sum size_in refl (length trace.texts));
+      };
+      owner_is = refl;
+      done_is = zeros ∙ zeros_are trace.texts trace.tracks;
+      fault_is = refl;
+    })
+
+-- there is no track past the last
+pub none_past : (trace : Trace) (owner : Option ℕ) (t at : ℕ) → length trace.tracks ≤ t → may_do owner t (action_after (tracks trace) t at) ≡ false
+none_past trace owner t at past =
+    ap (λ (o : Option PlainTrack). may_do owner t (option_and_then (λ track. slice_get track.actions at) o))
+    (slice_get-map (track_of trace.texts) trace.tracks t ∙ ap (option_map (track_of trace.texts)) (slice_get_past trace.tracks t past))
+
+-- the fields tell who is ready
+pub ready_is : (trace : Trace) (es : List Entry) (slots : List (Option Body)) (owner : Option ℕ) (done : List ℕ) (faulted : Bool) → Stands trace es slots owner done faulted → (t : ℕ)
+    → may_do owner t (action_after (tracks trace) t (slice_index done t)) ≡ is_ready (tracks trace) (last_state (tracks trace) es) t
+ready_is trace es slots owner done faulted stands t = λ i. may_do (stands.owner_is i) t (action_after (tracks trace) t (slice_index (stands.done_is i) t))
+
+pub some_weaker : {A : Type 0} (o : Option A) (P Q : A → Type 0) → ((a : A) → P a → Q a) → IfSome o P → IfSome o Q
+some_weaker None P Q f h = tt
+some_weaker (Some a) P Q f h = f a h
+
+pub none_weaker : {A : Type 0} (o : Option A) (P Q : Type 0) → (P → Q) → IfNone o P → IfNone o Q
+none_weaker None P Q f h = f h
+none_weaker (Some a) P Q f h = tt
+
+-- taking off what was just added leaves what was there
+pub undone : {A : Type 0} (xs ys zs : List A) (x : A) → ys ≡ xs ++ x ∷ [] → zs ≡ take (length ys - 1) ys → zs ≡ xs
+undone xs ys zs x pushed popped =
+    let shorter : length (xs ++ x ∷ []) - 1 ≡ length xs = omega (arith, length-append xs (x ∷ [])) in
+    popped ∙ ap (λ (l : List _). take (length l - 1) l) pushed ∙ ap (λ (n : ℕ). take n (xs ++ x ∷ [])) shorter ∙ take-append_seam xs (x ∷ [])

@@ -1,0 +1,9 @@
+use Rattle.std.proofs.Common.{ap, ◌∙◌, ℕ, Option, None, replicate}
+use Rattle.block_model.specs.Block.{Body}
+use Rattle.machine_core.proofs.StepLemmas.{opening_stands}
+use Rattle.machine_core.proofs.machine.Machine.new.Goals as goal
+
+pub invariant_of-result : goal.invariant_of-result
+invariant_of-result c =
+    opening_stands c.args.trace c.new-2.result c.in_ok-store.store c.in_ok-done.done.items c.len-2.ensures.table.distinct c.requires c.new-2.ensures
+    (c.in_ok-store.ensures ∙ ap (λ (n : ℕ). replicate {A = Option Body} n None) c.len-2.ensures.count) (c.in_ok-done.ensures ∙ ap (λ (n : ℕ). replicate n 0) c.len.ensures)

@@ -1,0 +1,5 @@
+pub mod Change
+pub mod Reply
+pub mod Slots
+pub mod Stands
+pub mod View

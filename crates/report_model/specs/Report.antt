@@ -1,0 +1,130 @@
+-- The texts of events, the summary, and the report of a history.
+use Rattle.std.specs.Prelude.{ℕ, ◌+◌, if◌then◌else◌, List, [], ◌∷◌, ◌++◌, slice_get, Option, Some, None, codes, decimal}
+use Rattle.mem_base.specs.declared.history.Entry.{Entry}
+use Rattle.mem_base.specs.declared.reply.Fault.{Fault}
+use Rattle.mem_base.specs.declared.reply.Fault.TheVariants.{Unlocked, BadId, BadLead, BadTail}
+use Rattle.mem_base.specs.declared.reply.Totals.{Totals}
+use Rattle.trace_model.specs.Plain.{Name, Action, acquire, release, malloc, free, poke, peek, other, PlainTrack}
+use Rattle.trace_model.specs.Spelling.{line_of, hex_word, blank, line_end}
+use Rattle.event_model.specs.Effects.{State, PlainReply, ok, null, busy, absent, outside, held, not_held, bytes, fault, unsaid}
+use Rattle.event_model.specs.Events.{next_action, event}
+use Rattle.event_model.specs.History.{opening, last_state, totals_of}
+
+-- ---- the text of an event
+
+abbrev pub reply_word : PlainReply → List ℕ
+reply_word ok = codes "ok"
+reply_word null = codes "null"
+reply_word busy = codes "busy"
+reply_word absent = codes "absent"
+reply_word outside = codes "outside"
+reply_word held = codes "held"
+reply_word not_held = codes "not_held"
+reply_word (bytes found) = hex_word found
+reply_word (fault found block) = codes "fault"
+reply_word unsaid = []
+
+-- the number of the event, the track, the line of the trace, and the reply
+unfoldable pub event_line : ℕ → Name → Action → PlainReply → List ℕ
+event_line number track action reply = decimal number ++ blank ∷ track ++ blank ∷ line_of action ++ codes " = " ++ reply_word reply ++ line_end ∷ []
+
+-- what was found
+unfoldable pub fault_line : Fault → List ℕ
+fault_line Unlocked = codes "  unlocked\n"
+fault_line (BadId found verified) = codes "  bad_id found " ++ hex_word (found ∷ []) ++ codes " verified " ++ hex_word (verified ∷ []) ++ line_end ∷ []
+fault_line (BadLead k) = codes "  bad_lead " ++ decimal k ++ line_end ∷ []
+fault_line (BadTail k) = codes "  bad_tail " ++ decimal k ++ line_end ∷ []
+
+-- the name of the block that it was found in, and the size of its data
+unfoldable pub block_line : Name → ℕ → List ℕ
+block_line name size = codes "  block " ++ name ++ codes " size " ++ decimal size ++ line_end ∷ []
+
+-- the eight bytes before its data
+unfoldable pub head_line : List ℕ → List ℕ
+head_line head = codes "  head " ++ hex_word head ++ line_end ∷ []
+
+-- the eight bytes behind its data
+unfoldable pub tail_line : List ℕ → List ℕ
+tail_line tail = codes "  tail " ++ hex_word tail ++ line_end ∷ []
+
+-- the lines below that of the event: those of a fault, in a block of this name
+abbrev pub more_lines : Name → PlainReply → List ℕ
+more_lines name (fault found None) = fault_line found
+more_lines name (fault found (Some block)) = fault_line found ++ block_line name block.size ++ head_line block.head ++ tail_line block.tail
+more_lines name reply = []
+
+-- the block that an operation is on
+abbrev pub block_name : Action → Name
+block_name acquire = []
+block_name release = []
+block_name (malloc letter name size) = name
+block_name (free letter name) = name
+block_name (poke name offset new) = name
+block_name (peek name offset count) = name
+block_name other = []
+
+abbrev pub event_lines : ℕ → Name → Action → PlainReply → List ℕ
+event_lines number track action reply = event_line number track action reply ++ more_lines (block_name action) reply
+
+abbrev pub lines_for : ℕ → Option PlainTrack → Option Action → PlainReply → List ℕ
+lines_for number (Some track) (Some action) reply = event_lines number track.name action reply
+lines_for number (Some track) None reply = []
+lines_for number None action reply = []
+
+-- the text of the event with that number, which is the entry's
+abbrev pub event_text : List PlainTrack → ℕ → State → Entry → List ℕ
+event_text tracks number s e = lines_for number (slice_get tracks e.track) (next_action tracks s e.track) (event tracks s e).1
+
+-- the texts of events, the first of which has that number
+abbrev pub texts_from : List PlainTrack → ℕ → State → List Entry → List ℕ
+texts_from tracks number s [] = []
+texts_from tracks number s (e ∷ es) = event_text tracks number s e ++ texts_from tracks (number + 1) (event tracks s e).0 es
+
+-- the texts of all events of a history
+abbrev pub events_text : List PlainTrack → List Entry → List ℕ
+events_text tracks es = texts_from tracks 1 (opening tracks) es
+
+-- ---- the summary
+
+abbrev pub name_of : Option PlainTrack → Name
+name_of None = []
+name_of (Some track) = track.name
+
+-- the name of the track that owns the lock
+abbrev pub owner_word : List PlainTrack → Option ℕ → List ℕ
+owner_word tracks None = codes "free"
+owner_word tracks (Some t) = name_of (slice_get tracks t)
+
+unfoldable pub events_line : ℕ → ℕ → List ℕ
+events_line events status = codes "summary events " ++ decimal events ++ codes " status " ++ decimal status ++ line_end ∷ []
+
+unfoldable pub lock_line : List ℕ → List ℕ
+lock_line owner = codes "summary lock " ++ owner ++ line_end ∷ []
+
+unfoldable pub blocks_line : ℕ → ℕ → List ℕ
+blocks_line blocks size = codes "summary blocks " ++ decimal blocks ++ codes " bytes " ++ decimal size ++ line_end ∷ []
+
+unfoldable pub arenas_line : ℕ → ℕ → ℕ → List ℕ
+arenas_line given back most = codes "summary arenas given " ++ decimal given ++ codes " back " ++ decimal back ++ codes " most " ++ decimal most ++ line_end ∷ []
+
+unfoldable pub traced_line : ℕ → ℕ → List ℕ
+traced_line traced peak = codes "summary traced " ++ decimal traced ++ codes " peak " ++ decimal peak ++ line_end ∷ []
+
+-- the five lines of these numbers and this status
+abbrev pub summary_lines : List ℕ → Totals → ℕ → List ℕ
+summary_lines owner totals status =
+    events_line totals.events status ++ lock_line owner ++ blocks_line totals.blocks totals.bytes
+    ++ arenas_line totals.counts.given totals.counts.back totals.counts.most ++ traced_line totals.traced totals.peak
+
+-- the status of a run that led to this state: 1 where a fault came
+abbrev pub status_in : State → ℕ
+status_in s = if s.faulted then 1 else 0
+
+-- the summary of a history
+abbrev pub summary_text : List PlainTrack → List Entry → List ℕ
+summary_text tracks es =
+    let s = last_state tracks es in summary_lines (owner_word tracks s.owner) (totals_of tracks es) (status_in s)
+
+-- the texts of all events, and then the summary
+abbrev pub report : List PlainTrack → List Entry → List ℕ
+report tracks es = events_text tracks es ++ summary_text tracks es

@@ -1,0 +1,155 @@
+-- Words that are read as an operation are its words, and its words are read as it.
+use Rattle.std.proofs.Common.{◌≡◌, ℕ, ◌<◌, ◌≤◌, Bool, true, cond, List, [], ◌∷◌, length, Ok, Err, refl, sym, ap, subst, ◌∙◌, arith, inl, inr}
+use Rattle.std.specs.Prelude.{nat_le, decimal, codes}
+use Rattle.std.specs.List.{AllByRecursion}
+use Rattle.std.specs.Fmt.{signed_decimal}
+use Rattle.std.proofs.lemmas.Bool.{leb-true, le-leb}
+use Rattle.trace_model.specs.Plain.{Name, Action, acquire, release, malloc, free, poke, peek, other}
+use Rattle.trace_model.specs.Spelling.{is_name, is_forged, letter_word, hex_word, words_of, Fits}
+use Rattle.trace_model.specs.declared.keyword.Keyword.{Keyword}
+use Rattle.trace_model.specs.declared.keyword.Keyword.TheVariants as keys
+use Rattle.trace_model.specs.declared.cause.TraceCause.TheVariants.{BadRange, BadName, ForgedLetter}
+use Rattle.trace_model.specs.Reading.{◌>>=◌, keyword_text, keyword_at, unforged, action_at, number_at, offset_at, count_at, name_at, letter_at, hex_from, hex_at}
+use Rattle.trace_model.proofs.OperandLaws.{bind_ok, passed, unpassed, ok_is, chosen, number_takes, number_again, offset_takes, offset_again, count_takes, count_again, name_takes, letter_takes, letter_again, hex_takes, hex_back}
+
+pub keyword_takes : (w : List ℕ) (k : Keyword) → keyword_at w ≡ Ok k → w ≡ keyword_text k
+keyword_takes w k e =
+    elim (chosen keyword_text w keys.Track _ k e) [
+      | inl h ↦ h
+      | inr e1 ↦
+          elim (chosen keyword_text w keys.Acquire _ k e1) [
+            | inl h ↦ h
+            | inr e2 ↦
+                elim (chosen keyword_text w keys.Release _ k e2) [
+                  | inl h ↦ h
+                  | inr e3 ↦
+                      elim (chosen keyword_text w keys.Malloc _ k e3) [
+                        | inl h ↦ h
+                        | inr e4 ↦
+                            elim (chosen keyword_text w keys.Free _ k e4) [
+                              | inl h ↦ h
+                              | inr e5 ↦
+                                  elim (chosen keyword_text w keys.Poke _ k e5) [
+                                    | inl h ↦ h
+                                    | inr e6 ↦
+                                        elim (chosen keyword_text w keys.Peek _ k e6) [ inl h ↦ h | inr e7 ↦ absurd cc ]
+                                  ]
+                            ]
+                      ]
+                ]
+          ]
+    ]
+
+-- ---- actions
+
+abbrev pub Spells : Keyword → List (List ℕ) → Action → Type 0
+Spells k ws a = (words_of a ≡ keyword_text k ∷ ws) × Fits a
+
+-- no word is empty
+abbrev pub AreWords : List (List ℕ) → Type 0
+AreWords ws = AllByRecursion (λ w. 0 < length w) ws
+
+some_bytes : (bytes w : List ℕ) → w ≡ hex_word bytes → 0 < length w → 1 ≤ length bytes
+some_bytes [] w is some = absurd (omega (arith, ap length is))
+some_bytes (b ∷ bs) w is some = omega arith
+
+pub action_takes : (k : Keyword) (ws : List (List ℕ)) (a : Action) → AreWords ws → action_at k ws ≡ Ok a → Spells k ws a
+unfolding action_at hex_at
+action_takes keys.Track ws a some e = absurd cc
+action_takes keys.Acquire [] a some e = subst (Spells keys.Acquire []) (ok_is acquire a e) (refl, tt)
+action_takes keys.Acquire (w ∷ ws) a some e = absurd cc
+action_takes keys.Release [] a some e = subst (Spells keys.Release []) (ok_is release a e) (refl, tt)
+action_takes keys.Release (w ∷ ws) a some e = absurd cc
+action_takes keys.Malloc [] a some e = absurd cc
+action_takes keys.Malloc (w ∷ []) a some e = absurd cc
+action_takes keys.Malloc (w ∷ x ∷ []) a some e = absurd cc
+action_takes keys.Malloc (w ∷ x ∷ y ∷ z ∷ ws) a some e = absurd cc
+action_takes keys.Malloc (letter ∷ name ∷ size ∷ []) a some e =
+    let l = bind_ok (letter_at letter) (λ l. name_at name >>= λ u. number_at size >>= λ n. Ok (malloc l name n)) a e in
+    let u = bind_ok (name_at name) (λ u. number_at size >>= λ n. Ok (malloc l.0 name n)) a l.2 in
+    let n = bind_ok (number_at size) (λ n. Ok (malloc l.0 name n)) a u.2 in
+    let lt = letter_takes letter l.0 l.1 in
+    let nt = number_takes size n.0 n.1 in
+    subst (Spells keys.Malloc (letter ∷ name ∷ size ∷ [])) (ok_is (malloc l.0 name n.0) a n.2)
+    ((λ i. codes "malloc" ∷ sym lt i ∷ name ∷ sym nt.0 i ∷ []), (name_takes name u.0 u.1, nt.1))
+action_takes keys.Free [] a some e = absurd cc
+action_takes keys.Free (w ∷ []) a some e = absurd cc
+action_takes keys.Free (w ∷ x ∷ y ∷ ws) a some e = absurd cc
+action_takes keys.Free (letter ∷ name ∷ []) a some e =
+    let l = bind_ok (letter_at letter) (λ l. name_at name >>= λ u. Ok (free l name)) a e in
+    let u = bind_ok (name_at name) (λ u. Ok (free l.0 name)) a l.2 in
+    let lt = letter_takes letter l.0 l.1 in
+    subst (Spells keys.Free (letter ∷ name ∷ [])) (ok_is (free l.0 name) a u.2) ((λ i. codes "free" ∷ sym lt i ∷ name ∷ []), name_takes name u.0 u.1)
+action_takes keys.Poke [] a some e = absurd cc
+action_takes keys.Poke (w ∷ []) a some e = absurd cc
+action_takes keys.Poke (w ∷ x ∷ []) a some e = absurd cc
+action_takes keys.Poke (w ∷ x ∷ y ∷ z ∷ ws) a some e = absurd cc
+action_takes keys.Poke (name ∷ offset ∷ digits ∷ []) a some e =
+    let u = bind_ok (name_at name) (λ u. offset_at offset >>= λ o. hex_at digits >>= λ bytes. unforged name o bytes) a e in
+    let o = bind_ok (offset_at offset) (λ o. hex_at digits >>= λ bytes. unforged name o bytes) a u.2 in
+    let h = bind_ok (hex_at digits) (λ bytes. unforged name o.0 bytes) a o.2 in
+    let honest = unpassed (is_forged o.0 h.0) (Ok (poke name o.0 h.0)) ForgedLetter a h.2 in
+    let f = bind_ok (hex_from digits) (λ bytes. cond (nat_le (length bytes) 1024) (Ok bytes) (Err BadRange)) h.0 h.1 in
+    let p = passed (nat_le (length f.0) 1024) (Ok f.0) BadRange h.0 f.2 in
+    let same : f.0 ≡ h.0 = ok_is f.0 h.0 p.1 in
+    let ot = offset_takes offset o.0 o.1 in
+    let ht = hex_takes digits f.0 f.1 in
+    let made : Spells keys.Poke (name ∷ offset ∷ digits ∷ []) (poke name o.0 f.0) =
+    ((λ i. codes "poke" ∷ name ∷ sym ot.0 i ∷ sym ht.0 i ∷ []), (name_takes name u.0 u.1, ot.1, ht.1, some_bytes f.0 digits ht.0 some.1.1.0, leb-true _ _ p.0, ap (is_forged o.0) same ∙ honest.0)) in
+    subst (Spells keys.Poke (name ∷ offset ∷ digits ∷ [])) (ap (λ (b : List ℕ). poke name o.0 b) same ∙ ok_is (poke name o.0 h.0) a honest.1) made
+action_takes keys.Peek [] a some e = absurd cc
+action_takes keys.Peek (w ∷ []) a some e = absurd cc
+action_takes keys.Peek (w ∷ x ∷ []) a some e = absurd cc
+action_takes keys.Peek (w ∷ x ∷ y ∷ z ∷ ws) a some e = absurd cc
+action_takes keys.Peek (name ∷ offset ∷ count ∷ []) a some e =
+    let u = bind_ok (name_at name) (λ u. offset_at offset >>= λ o. count_at count >>= λ n. Ok (peek name o n)) a e in
+    let o = bind_ok (offset_at offset) (λ o. count_at count >>= λ n. Ok (peek name o n)) a u.2 in
+    let n = bind_ok (count_at count) (λ n. Ok (peek name o.0 n)) a o.2 in
+    let ot = offset_takes offset o.0 o.1 in
+    let nt = count_takes count n.0 n.1 in
+    subst (Spells keys.Peek (name ∷ offset ∷ count ∷ [])) (ok_is (peek name o.0 n.0) a n.2)
+    ((λ i. codes "peek" ∷ name ∷ sym ot.0 i ∷ sym nt.0 i ∷ []), (name_takes name u.0 u.1, ot.1, nt.1, nt.2))
+
+abbrev pub key_of : Action → Keyword
+key_of acquire = keys.Acquire
+key_of release = keys.Release
+key_of (malloc letter name size) = keys.Malloc
+key_of (free letter name) = keys.Free
+key_of (poke name offset bytes) = keys.Poke
+key_of (peek name offset count) = keys.Peek
+key_of other = keys.Acquire
+
+abbrev pub operands_of : Action → List (List ℕ)
+operands_of acquire = []
+operands_of release = []
+operands_of (malloc letter name size) = letter_word letter ∷ name ∷ decimal size ∷ []
+operands_of (free letter name) = letter_word letter ∷ name ∷ []
+operands_of (poke name offset bytes) = name ∷ signed_decimal offset ∷ hex_word bytes ∷ []
+operands_of (peek name offset count) = name ∷ signed_decimal offset ∷ decimal count ∷ []
+operands_of other = []
+
+pub words_are : (a : Action) → Fits a → words_of a ≡ keyword_text (key_of a) ∷ operands_of a
+words_are acquire fits = refl
+words_are release fits = refl
+words_are (malloc letter name size) fits = refl
+words_are (free letter name) fits = refl
+words_are (poke name offset bytes) fits = refl
+words_are (peek name offset count) fits = refl
+words_are other fits = absurd fits
+
+name_again : (name : Name) → is_name name ≡ true → name_at name ≡ Ok tt
+name_again name is = ap (λ (b : Bool). cond b (Ok tt) (Err BadName)) is
+
+hex_again : (bytes : List ℕ) → AllByRecursion (λ b. b < 256) bytes → length bytes ≤ 1024 → hex_at (hex_word bytes) ≡ Ok bytes
+unfolding hex_at
+hex_again bytes fits few = rw (hex_back bytes fits, le-leb _ _ few) refl
+
+pub action_again : (a : Action) → Fits a → action_at (key_of a) (operands_of a) ≡ Ok a
+unfolding action_at
+action_again acquire fits = refl
+action_again release fits = refl
+action_again (malloc letter name size) fits = rw (letter_again letter, name_again name fits.0, number_again size fits.1) refl
+action_again (free letter name) fits = rw (letter_again letter, name_again name fits) refl
+action_again (poke name offset bytes) fits = rw (name_again name fits.0, offset_again offset fits.1, hex_again bytes fits.2 fits.4, fits.5) refl
+action_again (peek name offset count) fits = rw (name_again name fits.0, offset_again offset fits.1, count_again count fits.2 fits.3) refl
+action_again other fits = absurd fits

@@ -1,0 +1,77 @@
+-- What one more track and one more operation add to a trace's spelling.
+use Rattle.std.proofs.Common.{◌≡◌, ℕ, suc, ◌+◌, Bool, true, false, List, [], ◌∷◌, ◌++◌, length, refl, sym, ap, ◌∙◌, append_assoc, append-nil, arith, length-append, true≢false}
+use Rattle.std.specs.Prelude.{◌==◌}
+use Rattle.std.specs.List.{AllByRecursion}
+use Rattle.std.proofs.lemmas.Bool.{eqb-true}
+use Rattle.std.proofs.lemmas.List.Concat.{flat_map-cons}
+use Rattle.std.proofs.lemmas.List.Sums.{sum_by-cons, sum_by-append}
+use Rattle.std.proofs.lemmas.Grind.{flat_map-append}
+use Rattle.trace_model.specs.Plain.{Name, Action, PlainTrack}
+use Rattle.trace_model.specs.Spelling.{line_of, track_line, ended, action_lines, track_lines, action_count, Fits, FitsTrack}
+use Rattle.trace_model.specs.Reading.{with_action}
+
+pub all_push : {X : Type 0} (P : X → Type 0) (xs : List X) (x : X) → AllByRecursion P xs → P x → AllByRecursion P (xs ++ x ∷ [])
+all_push P [] x fits fit = (fit, tt)
+all_push P (y ∷ ys) x fits fit = (fits.0, all_push P ys x fits.1 fit)
+
+-- the bytes of a track
+abbrev pub lines_of : PlainTrack → List ℕ
+lines_of t = ended (track_line t.name) ++ action_lines t.actions
+
+pub actions_push : (actions : List Action) (a : Action) → action_lines (actions ++ a ∷ []) ≡ action_lines actions ++ ended (line_of a)
+actions_push actions a = flat_map-append (λ b. ended (line_of b)) actions (a ∷ []) ∙ ap (λ (x : List ℕ). action_lines actions ++ x) (append-nil (ended (line_of a)))
+
+pub track_lines-one : (t : PlainTrack) → track_lines (t ∷ []) ≡ lines_of t
+track_lines-one t = append-nil (lines_of t)
+
+pub track_lines-push : (ts : List PlainTrack) (t : PlainTrack) → track_lines (ts ++ t ∷ []) ≡ track_lines ts ++ lines_of t
+track_lines-push ts t = flat_map-append lines_of ts (t ∷ []) ∙ ap (λ (x : List ℕ). track_lines ts ++ x) (track_lines-one t)
+
+pub new_track : (ts : List PlainTrack) (name : Name) → track_lines (ts ++ record { name = name; actions = [] } ∷ []) ≡ track_lines ts ++ ended (track_line name)
+new_track ts name = track_lines-push ts (record { name = name; actions = [] }) ∙ ap (λ (x : List ℕ). track_lines ts ++ x) (append-nil (ended (track_line name)))
+
+pub count_of_new : (ts : List PlainTrack) (name : Name) → action_count (ts ++ record { name = name; actions = [] } ∷ []) ≡ action_count ts
+count_of_new ts name =
+    let both = sum_by-append (λ t. length t.actions) ts (record { name = name; actions = [] } ∷ []) in
+    omega (arith, both)
+
+-- ---- one more operation of the last track
+
+pub suc_not_zero : (n : ℕ) → (suc n == 0) ≡ false
+suc_not_zero n = by (suc n == 0) refl
+  where
+    by : (v : Bool) → (suc n == 0) ≡ v → v ≡ false
+    by true e =
+        let none : suc n ≡ 0 = eqb-true (suc n) 0 e in
+        absurd (omega arith)
+    by false e = refl
+
+pub length-with_action : (ts : List PlainTrack) (a : Action) → length (with_action ts a) ≡ length ts
+length-with_action [] a = refl
+length-with_action (t ∷ []) a = refl
+length-with_action (t ∷ u ∷ ts) a = ap suc (length-with_action (u ∷ ts) a)
+
+pub action_count-with : (ts : List PlainTrack) (a : Action) → (length ts == 0) ≡ false → action_count (with_action ts a) ≡ action_count ts + 1
+action_count-with [] a some = absurd (true≢false some)
+action_count-with (t ∷ []) a some = omega (arith, length-append t.actions (a ∷ []))
+action_count-with (t ∷ u ∷ ts) a some =
+    let f = λ (v : PlainTrack). length v.actions in
+    omega (arith, sum_by-cons f t (with_action (u ∷ ts) a), sum_by-cons f t (u ∷ ts), action_count-with (u ∷ ts) a (suc_not_zero (length ts)))
+
+pub fits_with : (ts : List PlainTrack) (a : Action) → Fits a → AllByRecursion FitsTrack ts → AllByRecursion FitsTrack (with_action ts a)
+fits_with [] a fit fits = tt
+fits_with (t ∷ []) a fit fits = (record { name = fits.0.name; actions = all_push Fits t.actions a fits.0.actions fit }, tt)
+fits_with (t ∷ u ∷ ts) a fit fits = (fits.0, fits_with (u ∷ ts) a fit fits.1)
+
+pub lines_with : (ts : List PlainTrack) (a : Action) → (length ts == 0) ≡ false → track_lines (with_action ts a) ≡ track_lines ts ++ ended (line_of a)
+lines_with [] a some = absurd (true≢false some)
+lines_with (t ∷ []) a some =
+    track_lines-one (record { name = t.name; actions = t.actions ++ a ∷ [] })
+    ∙ ap (λ (x : List ℕ). ended (track_line t.name) ++ x) (actions_push t.actions a)
+    ∙ sym (append_assoc (ended (track_line t.name)) (action_lines t.actions) (ended (line_of a)))
+    ∙ ap (λ (x : List ℕ). x ++ ended (line_of a)) (sym (track_lines-one t))
+lines_with (t ∷ u ∷ ts) a some =
+    flat_map-cons lines_of t (with_action (u ∷ ts) a)
+    ∙ ap (λ (x : List ℕ). lines_of t ++ x) (lines_with (u ∷ ts) a (suc_not_zero (length ts)))
+    ∙ sym (append_assoc (lines_of t) (track_lines (u ∷ ts)) (ended (line_of a)))
+    ∙ ap (λ (x : List ℕ). x ++ ended (line_of a)) (sym (flat_map-cons lines_of t (u ∷ ts)))
