@@ -12,11 +12,22 @@
 //! The definitions in `specs/` say this in the words that the crates above cite.
 #![tactic(auto)]
 
-ghost use Rattle.std.specs.Prelude.{◌≡◌, ℕ, List, length};
-ghost use Rattle.block_model.specs.Block.{body_of, size_of};
+ghost use Rattle.std.specs.Prelude.{◌≡◌, ℕ, ℤ, true, List, None, length};
+ghost use Rattle.block_model.specs.Block.{body_of, finding_in, peeked, poked, reaches, size_of};
 ghost use Rattle.mem_base.specs.declared.trace.Letter.{Letter};
 
 /// A body has as many bytes of data as it was made of.
 pub fn sizes_add_up()
     ensures { (v : Letter) (bytes : List ℕ) → size_of (body_of v bytes) ≡ length bytes }
+{}
+
+/// A block that nobody damaged shows no damage.
+pub fn whole_blocks_pass()
+    ensures { (v : Letter) (bytes : List ℕ) → finding_in v (body_of v bytes) ≡ None }
+{}
+
+/// What a poke wrote, a peek of the same bytes shows.
+pub fn peeks_show_pokes()
+    ensures { (body : List ℕ) (offset : ℤ) (bytes : List ℕ) → reaches body offset (length bytes) ≡ true
+        → peeked (poked body offset bytes) offset (length bytes) ≡ bytes }
 {}

@@ -11,7 +11,7 @@
 //!
 //! The size word is written once, by `dress`. What follows it is the block's body: `poke` and
 //! `peek` reach all of it, by offsets from the data's start, and `check` finds the first byte of
-//! the letter and the pads that a poke has changed. No call takes memory.
+//! the letter and the pads that is not as `dress` wrote it. No call on a block takes memory.
 #![tactic(auto)]
 
 mod checks;

@@ -4,8 +4,9 @@ ghost use Rattle.block_model.specs.Block.{IsOffset, place_of, reaches, peeked, p
 
 use crate::Guarded;
 
-/// Writes these bytes at an offset from the data's start, and answers whether they lie in the
-/// block's letter, pads and data.
+/// Writes these bytes from an offset on, which is counted in bytes from the data's start, and
+/// answers true. Where they do not all lie in the block's body nothing is written, and the answer
+/// is false.
 pub fn poke(g: &mut Guarded, off: i64, bytes: &[u8]) -> bool
     requires { IsOffset off }
     ensures reach { result ≡ reaches g.old.body off (length bytes.now) }
@@ -23,8 +24,8 @@ pub fn poke(g: &mut Guarded, off: i64, bytes: &[u8]) -> bool
     }
 }
 
-/// So many bytes from an offset from the data's start on, where they lie in the block's letter,
-/// pads and data.
+/// So many bytes of the block's body from an offset on, which is counted in bytes from the data's
+/// start. `None` where they do not all lie in the body.
 pub fn peek(g: &Guarded, off: i64, len: u64) -> Option<&[u8]>
     requires { IsOffset off }
     ensures { option_copied result ≡ (if reaches g.now.body off len then Some (peeked g.now.body off len) else None) }

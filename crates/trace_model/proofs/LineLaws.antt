@@ -12,7 +12,7 @@ use Rattle.trace_model.specs.declared.cause.TraceCause.{TraceCause}
 use Rattle.trace_model.specs.declared.cause.TraceCause.TheVariants.{BadByte, BadName, Misplaced, BadWords}
 use Rattle.trace_model.specs.Reading.{◌>>=◌, keyword_text, keyword_at, action_at, name_at, start, add, is_empty, is_track, item_at, words_at, line_at}
 use Rattle.trace_model.proofs.OperandLaws.{bind_ok, passed, unpassed, name_takes}
-use Rattle.trace_model.proofs.ActionLaws.{keyword_takes, AreWords, action_takes, action_again, key_of, operands_of, words_are}
+use Rattle.trace_model.proofs.ActionLaws.{keyword_takes, action_takes, action_again, key_of, operands_of, words_are}
 use Rattle.trace_model.proofs.WordLaws.{is_word, words_fit, track_words_fit, words_again, words_plain}
 
 -- what a line adds to the trace before it
@@ -20,33 +20,24 @@ pub data Adds (t u : PlainTrace) (line : List ℕ) : Type 0 where
   a_track : (name : Name) → is_name name ≡ true → line ≡ track_line name → start t name ≡ Ok u → Adds t u line
   an_action : (a : Action) → Fits a → line ≡ line_of a → (length t.tracks == 0) ≡ false → add t a ≡ Ok u → Adds t u line
 
-words_not_empty : (ws : List (List ℕ)) → list_any is_empty ws ≡ false → AreWords ws
-words_not_empty [] h = tt
-words_not_empty ([] ∷ ws) h = absurd (true≢false h)
-words_not_empty ((b ∷ bs) ∷ ws) h = (omega arith, words_not_empty ws (rest (is_empty (b ∷ bs)) (list_any is_empty ws) h))
-  where
-    rest : (x y : Bool) → (x || y) ≡ false → y ≡ false
-    rest true y h = absurd (true≢false h)
-    rest false y h = h
-
-acted : (t u : PlainTrace) (k : Keyword) (ws : List (List ℕ)) → AreWords ws → (length t.tracks == 0) ≡ false → (action_at k ws >>= λ a. add t a) ≡ Ok u → Adds t u (join_with_byte 32 (keyword_text k ∷ ws))
-acted t u k ws some placed e =
+acted : (t u : PlainTrace) (k : Keyword) (ws : List (List ℕ)) → (length t.tracks == 0) ≡ false → (action_at k ws >>= λ a. add t a) ≡ Ok u → Adds t u (join_with_byte 32 (keyword_text k ∷ ws))
+acted t u k ws placed e =
     let b = bind_ok (action_at k ws) (λ a. add t a) u e in
-    let s = action_takes k ws b.0 some b.1 in
+    let s = action_takes k ws b.0 b.1 in
     an_action b.0 s.1 (ap (join_with_byte 32) (sym s.0)) placed b.2
 
-by_item : (t u : PlainTrace) (k : Keyword) (ws : List (List ℕ)) → AreWords ws → (not (is_track k) && length t.tracks == 0) ≡ false → item_at t k ws ≡ Ok u → Adds t u (join_with_byte 32 (keyword_text k ∷ ws))
-by_item t u keys.Track [] some placed e = absurd cc
-by_item t u keys.Track (x ∷ y ∷ ws) some placed e = absurd cc
-by_item t u keys.Track (name ∷ []) some placed e =
+by_item : (t u : PlainTrace) (k : Keyword) (ws : List (List ℕ)) → (not (is_track k) && length t.tracks == 0) ≡ false → item_at t k ws ≡ Ok u → Adds t u (join_with_byte 32 (keyword_text k ∷ ws))
+by_item t u keys.Track [] placed e = absurd cc
+by_item t u keys.Track (x ∷ y ∷ ws) placed e = absurd cc
+by_item t u keys.Track (name ∷ []) placed e =
     let b = bind_ok (name_at name) (λ _. start t name) u e in
     a_track name (name_takes name b.0 b.1) refl b.2
-by_item t u keys.Acquire ws some placed e = acted t u keys.Acquire ws some placed e
-by_item t u keys.Release ws some placed e = acted t u keys.Release ws some placed e
-by_item t u keys.Malloc ws some placed e = acted t u keys.Malloc ws some placed e
-by_item t u keys.Free ws some placed e = acted t u keys.Free ws some placed e
-by_item t u keys.Poke ws some placed e = acted t u keys.Poke ws some placed e
-by_item t u keys.Peek ws some placed e = acted t u keys.Peek ws some placed e
+by_item t u keys.Acquire ws placed e = acted t u keys.Acquire ws placed e
+by_item t u keys.Release ws placed e = acted t u keys.Release ws placed e
+by_item t u keys.Malloc ws placed e = acted t u keys.Malloc ws placed e
+by_item t u keys.Free ws placed e = acted t u keys.Free ws placed e
+by_item t u keys.Poke ws placed e = acted t u keys.Poke ws placed e
+by_item t u keys.Peek ws placed e = acted t u keys.Peek ws placed e
 
 pub line_takes : (t u : PlainTrace) (line : List ℕ) → line_at t line ≡ Ok u → Adds t u line
 unfolding line_at
@@ -60,7 +51,7 @@ line_takes t u line e =
         let b = bind_ok (keyword_at first) (λ k. cond (not (is_track k) && length t.tracks == 0) (Err Misplaced) (cond (list_any is_empty ws) (Err BadWords) (item_at t k ws))) u h in
         let m = unpassed (not (is_track b.0) && length t.tracks == 0) (cond (list_any is_empty ws) (Err BadWords) (item_at t b.0 ws)) Misplaced u b.2 in
         let n = unpassed (list_any is_empty ws) (item_at t b.0 ws) BadWords u m.1 in
-        subst (λ (w : List ℕ). Adds t u (join_with_byte 32 (w ∷ ws))) (sym (keyword_takes first b.0 b.1)) (by_item t u b.0 ws (words_not_empty ws n.0) m.0 n.1)
+        subst (λ (w : List ℕ). Adds t u (join_with_byte 32 (w ∷ ws))) (sym (keyword_takes first b.0 b.1)) (by_item t u b.0 ws m.0 n.1)
 
 -- ---- the other way
 

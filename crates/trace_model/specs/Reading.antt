@@ -1,5 +1,5 @@
 -- Reading a trace line by line, up to the first faulty line and its first fault.
-use Rattle.std.specs.Prelude.{ℕ, zero, suc, ◌+◌, ◌-◌, ◌*◌, ◌^◌, ℤ, pos, negsuc, Bool, true, false, not, ◌&&◌, nat_lt, nat_le, ◌==◌, if◌then◌else◌, List, [], ◌∷◌, ◌++◌, length, Option, Some, None, Result, Ok, Err, codes}
+use Rattle.std.specs.Prelude.{ℕ, zero, suc, ◌+◌, ◌-◌, ◌*◌, ◌^◌, ℤ, pos, negsuc, Bool, true, false, not, ◌&&◌, nat_lt, ◌==◌, if◌then◌else◌, List, [], ◌∷◌, ◌++◌, length, Option, Some, None, Result, Ok, Err, codes}
 use Rattle.std.specs.List.{list_all, list_any, slice_split}
 use Rattle.std.specs.Str.{bytes_eq}
 use Rattle.mem_base.specs.declared.limits.TheConstants.{MAX_OPS, MAX_REACH}
@@ -75,10 +75,11 @@ hex_from [] = Ok []
 hex_from (a ∷ []) = Err BadHex
 hex_from (a ∷ b ∷ cs) = joined (digit_of a) (digit_of b) (hex_from cs)
 
+-- the bytes that are written; there is one at least, since no word is empty
 unfoldable pub hex_at : List ℕ → Result (List ℕ) TraceCause
 hex_at w = do
   bytes ← hex_from w
-  if nat_le (length bytes) MAX_REACH then Ok bytes else Err BadRange
+  if is_between 1 MAX_REACH (length bytes) then Ok bytes else Err BadRange
 
 -- ---- the words of a line
 
@@ -107,35 +108,49 @@ keyword_at w =
 abbrev pub unforged : Name → ℤ → List ℕ → Result Action TraceCause
 unforged name offset bytes = if is_forged offset bytes then Err ForgedLetter else Ok (poke name offset bytes)
 
--- the operation that a keyword and its operands give: the operands from left to right, then the forged letter
-unfoldable pub action_at : Keyword → List (List ℕ) → Result Action TraceCause
-action_at keys.Track ws = Err UnknownWord
-action_at keys.Acquire [] = Ok acquire
-action_at keys.Acquire (w ∷ ws) = Err BadWords
-action_at keys.Release [] = Ok release
-action_at keys.Release (w ∷ ws) = Err BadWords
-action_at keys.Malloc (letter ∷ name ∷ size ∷ []) = do
+-- ---- operations: the operands from left to right, and the forged letter last
+
+unfoldable pub malloc_at : List ℕ → List ℕ → List ℕ → Result Action TraceCause
+malloc_at letter name size = do
   l ← letter_at letter
   u ← name_at name
   n ← number_at size
   Ok (malloc l name n)
-action_at keys.Malloc ws = Err BadWords
-action_at keys.Free (letter ∷ name ∷ []) = do
+
+unfoldable pub free_at : List ℕ → List ℕ → Result Action TraceCause
+free_at letter name = do
   l ← letter_at letter
   u ← name_at name
   Ok (free l name)
-action_at keys.Free ws = Err BadWords
-action_at keys.Poke (name ∷ offset ∷ digits ∷ []) = do
+
+unfoldable pub poke_at : List ℕ → List ℕ → List ℕ → Result Action TraceCause
+poke_at name offset digits = do
   u ← name_at name
   o ← offset_at offset
   bytes ← hex_at digits
   unforged name o bytes
-action_at keys.Poke ws = Err BadWords
-action_at keys.Peek (name ∷ offset ∷ count ∷ []) = do
+
+unfoldable pub peek_at : List ℕ → List ℕ → List ℕ → Result Action TraceCause
+peek_at name offset count = do
   u ← name_at name
   o ← offset_at offset
   n ← count_at count
   Ok (peek name o n)
+
+-- the operation that a keyword and its operands give
+unfoldable pub action_at : Keyword → List (List ℕ) → Result Action TraceCause
+action_at keys.Track ws = Err UnknownWord
+action_at keys.Acquire [] = Ok acquire
+action_at keys.Acquire ws = Err BadWords
+action_at keys.Release [] = Ok release
+action_at keys.Release ws = Err BadWords
+action_at keys.Malloc (letter ∷ name ∷ size ∷ []) = malloc_at letter name size
+action_at keys.Malloc ws = Err BadWords
+action_at keys.Free (letter ∷ name ∷ []) = free_at letter name
+action_at keys.Free ws = Err BadWords
+action_at keys.Poke (name ∷ offset ∷ digits ∷ []) = poke_at name offset digits
+action_at keys.Poke ws = Err BadWords
+action_at keys.Peek (name ∷ offset ∷ count ∷ []) = peek_at name offset count
 action_at keys.Peek ws = Err BadWords
 
 abbrev pub is_track : Keyword → Bool

@@ -1,7 +1,5 @@
-use Rattle.std.proofs.Common.{◌≡◌, ap, length, arith, if◌then◌else◌}
-use Rattle.debug_guard.specs.Guard.{size_word}
-use Rattle.block_model.specs.Block.{fresh, new_byte}
-use Rattle.debug_guard.proofs.GuardLemmas.{dressed, IsDressed, length-size_word, length-fresh}
+use Rattle.std.proofs.Common.{ap, length, arith}
+use Rattle.debug_guard.proofs.GuardLemmas.{dressed, length-size_word, length-fresh}
 use Rattle.debug_guard.proofs.guarded.dress.Goals as goal
 
 pub invariant_of-result : goal.invariant_of-result

@@ -1,0 +1,6 @@
+pub mod Ended
+pub mod Events
+pub mod Input
+pub mod Outcome
+pub mod Refusals
+pub mod Words

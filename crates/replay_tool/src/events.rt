@@ -1,0 +1,162 @@
+ghost use Rattle.std.specs.Prelude.{◌≡◌, ◌≤◌, ◌⊎◌, ◌++◌, [], true, false, OnOk, OnErr, IfSome, IfNone, IsErrOf, IsSome};
+ghost use Rattle.std.specs.Io.KnownBytes.{Appends, Keeps};
+ghost use Rattle.streams.specs.Faults.{Rose};
+ghost use Rattle.streams.specs.Moves.{WroteFront};
+ghost use Rattle.trace_model.specs.Known.{IsKnownTrace, op_at};
+ghost use Rattle.trace_model.specs.Plain.{plain};
+ghost use Rattle.event_model.specs.Events.{is_ready};
+ghost use Rattle.event_model.specs.History.{IsWhole};
+ghost use Rattle.report_model.specs.Report.{owner_word, status_in, summary_text};
+ghost use Rattle.machine_core.specs.View.{tracks_of, state_of};
+ghost use Rattle.replay_tool.specs.Events.{step_text, OneMore, DidEvent, WroteEvent, CutEvent, RanWhole, WasCut, RanOut};
+
+use crate::report::{push_event, push_summary};
+use machine_core::Machine;
+use mem_base::{Step, Trace, TrackId};
+use std::alloc::{AllocError, Global};
+use streams::{Sink, write_all};
+
+/// Why a report was not written to its end.
+#[derive(Clone, Copy, Debug, PartialEq, Eq)]
+pub enum Halt {
+    WriteFault,
+    OutOfMemory,
+}
+
+// Writes a text.
+fn write_text<O: Sink>(out: &mut O, text: &[u8]) -> Result<(), Halt>
+    ensures whole { OnOk result (Appends (O.written out.old) (O.written out.new) text.now) }
+    ensures part { OnErr result (WroteFront (O.written out.old) (O.written out.new) text.now) }
+    ensures cause { OnErr result (Rose (O.faults out.old) (O.faults out.new)) }
+    ensures sure { OnErr result (IsErrOf result Halt.WriteFault) }
+    ensures later { O.faults out.old ≤ O.faults out.new }
+{
+    match write_all(out, text) {
+        Ok(()) => Ok(()),
+        Err(_) => Err(Halt::WriteFault),
+    }
+}
+
+// ---- one event
+
+// Adds the text of a step.
+fn push_step(trace: &Trace, number: u64, step: &Step, text: &mut Vec<u8>) -> Result<(), AllocError>
+    requires known { IsKnownTrace trace.now }
+    requires op { IsSome (op_at trace.now.tracks step.now.entry.track step.now.entry.at) }
+    ensures { OnOk result (text.new.items ≡ text.old.items ++ step_text trace.now number step.now) }
+{
+    let Some(track) = trace.tracks.get(step.entry.track as usize) else {
+        unreachable!()
+    };
+    let Some(op) = track.ops.get(step.entry.at as usize) else {
+        unreachable!()
+    };
+    push_event(text, &trace.texts, number, track.name, op, &step.reply)
+}
+
+// Does one event, and puts its text in place of what the buffer held.
+fn do_event(machine: &mut Machine, t: TrackId, text: &mut Vec<u8>) -> Result<(), AllocError>
+    requires ready { is_ready (tracks_of machine.old) (state_of machine.old) t ≡ true }
+    requires no_fault { (state_of machine.old).faulted ≡ false }
+    ensures did { OnOk result (DidEvent machine.old machine.new text.new.items) }
+    ensures err { OnErr result ((machine.new ≡ machine.old) ⊎ OneMore machine.old machine.new) }
+{
+    let step = machine.step(t)?;
+    let number = machine.history().entries.len() as u64;
+    text.clear();
+    push_step(machine.trace(), number, &step, text)
+}
+
+// Does one event, and writes its text.
+fn one_event<O: Sink>(
+    machine: &mut Machine,
+    t: TrackId,
+    text: &mut Vec<u8>,
+    out: &mut O,
+) -> Result<(), Halt>
+    requires ready { is_ready (tracks_of machine.old) (state_of machine.old) t ≡ true }
+    requires no_fault { (state_of machine.old).faulted ≡ false }
+    ensures wrote { OnOk result (WroteEvent machine.old machine.new (O.written out.old) (O.written out.new)) }
+    ensures cut { IsErrOf result Halt.WriteFault → CutEvent machine.old machine.new (O.written out.old) (O.written out.new) }
+    ensures cause { IsErrOf result Halt.WriteFault → Rose (O.faults out.old) (O.faults out.new) }
+    ensures memory { IsErrOf result Halt.OutOfMemory → (machine.new ≡ machine.old) ⊎ OneMore machine.old machine.new }
+    ensures kept { IsErrOf result Halt.OutOfMemory → Keeps (O.written out.old) (O.written out.new) }
+    ensures later { O.faults out.old ≤ O.faults out.new }
+{
+    match do_event(machine, t, text) {
+        Ok(()) => write_text(out, text.as_slice()),
+        Err(_) => Err(Halt::OutOfMemory),
+    }
+}
+
+// ---- the report
+
+// The track that does the next event: none once a fault has come.
+fn next_track(machine: &Machine) -> Option<TrackId>
+    ensures ready { IfSome result (λ t. is_ready (tracks_of machine.now) (state_of machine.now) t ≡ true) }
+    ensures no_fault { IfSome result (λ t. (state_of machine.now).faulted ≡ false) }
+    ensures none { IfNone result (IsWhole (tracks_of machine.now) machine.now.entries) }
+{
+    if machine.faulted() {
+        return None;
+    }
+    machine.first_ready()
+}
+
+// What the summary calls the owner of the lock.
+fn owner_name(trace: &Trace, owner: Option<TrackId>) -> &[u8]
+    requires { IsKnownTrace trace.now }
+    ensures { result.now ≡ owner_word (plain trace.now).tracks owner }
+{
+    match owner {
+        None => b"free",
+        Some(t) => match trace.tracks.get(t as usize) {
+            Some(track) => trace.texts.get(track.name),
+            None => b"",
+        },
+    }
+}
+
+/// The status of a replay that was done to its end: 1 where a fault came.
+pub fn status_of(machine: &Machine) -> u8
+    ensures { result ≡ status_in (state_of machine.now) }
+{
+    if machine.faulted() { 1 } else { 0 }
+}
+
+// Writes the summary.
+fn write_summary<O: Sink>(machine: &Machine, text: &mut Vec<u8>, out: &mut O) -> Result<(), Halt>
+    ensures whole { OnOk result (Appends (O.written out.old) (O.written out.new) (summary_text (tracks_of machine.now) machine.now.entries)) }
+    ensures cut { IsErrOf result Halt.WriteFault → WroteFront (O.written out.old) (O.written out.new) (summary_text (tracks_of machine.now) machine.now.entries) }
+    ensures cause { IsErrOf result Halt.WriteFault → Rose (O.faults out.old) (O.faults out.new) }
+    ensures kept { IsErrOf result Halt.OutOfMemory → Keeps (O.written out.old) (O.written out.new) }
+{
+    let totals = machine.totals();
+    let status = status_of(machine);
+    let owner = owner_name(machine.trace(), totals.owner);
+    text.clear();
+    if push_summary(text, owner, &totals, status).is_err() {
+        return Err(Halt::OutOfMemory);
+    }
+    write_text(out, text.as_slice())
+}
+
+/// Replays the whole trace, and writes the text of each event before the next event is done, and
+/// then the summary.
+pub fn write_report<O: Sink>(alloc: Global, machine: &mut Machine, out: &mut O) -> Result<(), Halt>
+    requires { machine.old.entries ≡ [] }
+    ensures trace { machine.new.trace ≡ machine.old.trace }
+    ensures whole { OnOk result (RanWhole (tracks_of machine.new) machine.new.entries (O.written out.old) (O.written out.new)) }
+    ensures cut { IsErrOf result Halt.WriteFault → WasCut (tracks_of machine.new) machine.new.entries (O.written out.old) (O.written out.new) }
+    ensures cause { IsErrOf result Halt.WriteFault → Rose (O.faults out.old) (O.faults out.new) }
+    ensures memory { IsErrOf result Halt.OutOfMemory → RanOut (tracks_of machine.new) machine.new.entries (O.written out.old) (O.written out.new) }
+{
+    let mut text = Vec::new(alloc);
+    while let Some(t) = next_track(machine) {
+        match one_event(machine, t, &mut text, out) {
+            Ok(()) => {}
+            Err(halt) => return Err(halt),
+        }
+    }
+    write_summary(machine, &mut text, out)
+}

@@ -1,0 +1,13 @@
+//! The command `replay`: it reads a trace, replays it, and writes the report of what happened.
+#![tactic(auto)]
+
+mod command;
+mod events;
+mod input;
+mod refusal;
+mod report;
+#[cfg(test)]
+mod tests;
+mod words;
+
+pub use command::{Outcome, run};

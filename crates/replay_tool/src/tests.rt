@@ -1,0 +1,204 @@
+use crate::run;
+use mem_base::List;
+use std::alloc::{AllocError, Global};
+use std::test::Fail;
+use streams::{MemSink, MemSource};
+
+// What a run over memory gave: its status, the number of its events, and what the sinks received.
+#[derive(Drop)]
+struct Given {
+    status: u8,
+    events: usize,
+    out: Vec<u8>,
+    err: Vec<u8>,
+}
+
+// A run over an input in memory that fails at a read, and an output that takes so many bytes.
+fn run_over(
+    alloc: Global,
+    word: &str,
+    input: &[u8],
+    fail_at: Option<u64>,
+    limit: u64,
+    err_limit: u64,
+) -> Result<Given, AllocError> {
+    let words = vec![in alloc; String::from_str(alloc, word)?]?;
+    let mut input = MemSource::new(List::from_slice(alloc, input)?, fail_at);
+    let mut out = MemSink::new(alloc, limit)?;
+    let mut err = MemSink::new(alloc, err_limit)?;
+    let outcome = run(alloc, words.as_slice(), &mut input, &mut out, &mut err);
+    Ok(Given {
+        status: outcome.status,
+        events: outcome.history.entries.len(),
+        out: Vec::from_slice(alloc, out.bytes())?,
+        err: Vec::from_slice(alloc, err.bytes())?,
+    })
+}
+
+fn replay(alloc: Global, input: &[u8]) -> Result<Given, AllocError> {
+    run_over(alloc, "replay", input, None, 4096, 4096)
+}
+
+// Whether the status is 0 or 1, and the report ends with these lines.
+fn ends_with(given: &Given, status: u8, lines: &[u8]) -> bool {
+    given.status == status && given.err.is_empty() && given.out.as_slice().ends_with(lines)
+}
+
+const FIRST: &[u8] =
+    b"pymtrace 1\ntrack t\nacquire\nmalloc m x 4\npoke x 1 6162\npeek x 0 4\npeek x 12 1\nfree m x\npeek x 0 1\nrelease\n";
+
+const FIRST_REPORT: &[u8] =
+    b"1 t acquire = ok\n2 t malloc m x 4 = ok\n3 t poke x 1 6162 = ok\n4 t peek x 0 4 = cd6162cd\n5 t peek x 12 1 = outside\n6 t free m x = ok\n7 t peek x 0 1 = absent\n8 t release = ok\nsummary events 8 status 0\nsummary lock free\nsummary blocks 0 bytes 0\nsummary arenas given 0 back 0 most 0\nsummary traced 0 peak 0\n";
+
+const SUMMARY_OF_NONE: &[u8] =
+    b"summary events 0 status 0\nsummary lock free\nsummary blocks 0 bytes 0\nsummary arenas given 0 back 0 most 0\nsummary traced 0 peak 0\n";
+
+#[test]
+fn one_track_over_blocks(rt: HostRuntime) -> Result<(), Fail> {
+    let given = replay(rt.alloc(), FIRST)?;
+    assert_eq!(rt; given.out.as_slice(), FIRST_REPORT);
+    assert_eq!(rt; given.status, 0);
+    assert_eq!(rt; given.events, 8);
+    assert!(rt; given.err.is_empty());
+    let none = replay(rt.alloc(), b"pymtrace 1\n")?;
+    assert_eq!(rt; none.out.as_slice(), SUMMARY_OF_NONE);
+    assert_eq!(rt; none.status, 0);
+    Ok(())
+}
+
+#[test]
+fn a_fault_names_the_damage(rt: HostRuntime) -> Result<(), Fail> {
+    let alloc = rt.alloc();
+    let overrun = replay(
+        alloc,
+        b"pymtrace 1\ntrack t\nacquire\nmalloc m x 32\npoke x 32 00\nfree m x\npeek x 0 1\n",
+    )?;
+    assert!(rt;
+        ends_with(
+            &overrun,
+            1,
+            b"3 t poke x 32 00 = ok\n4 t free m x = fault\n  bad_tail 0\n  block x size 32\n  head 6dfdfdfdfdfdfdfd\n  tail 00fdfdfdfdfdfdfd\nsummary events 4 status 1\nsummary lock t\nsummary blocks 1 bytes 32\nsummary arenas given 0 back 0 most 0\nsummary traced 0 peak 0\n"
+        )
+    );
+    let both = replay(
+        alloc,
+        b"pymtrace 1\ntrack t\nacquire\nmalloc m x 32\npoke x 32 00\npoke x -7 00\nfree m x\n",
+    )?;
+    assert!(rt;
+        ends_with(
+            &both,
+            1,
+            b"5 t free m x = fault\n  bad_lead 1\n  block x size 32\n  head 6d00fdfdfdfdfdfd\n  tail 00fdfdfdfdfdfdfd\nsummary events 5 status 1\nsummary lock t\nsummary blocks 1 bytes 32\nsummary arenas given 0 back 0 most 0\nsummary traced 0 peak 0\n"
+        )
+    );
+    let domain = replay(
+        alloc,
+        b"pymtrace 1\ntrack t\nacquire\nmalloc m x 8\nfree o x\n",
+    )?;
+    assert!(rt;
+        ends_with(
+            &domain,
+            1,
+            b"3 t free o x = fault\n  bad_id found 6d verified 6f\n  block x size 8\n  head 6dfdfdfdfdfdfdfd\n  tail fdfdfdfdfdfdfdfd\nsummary events 3 status 1\nsummary lock t\nsummary blocks 1 bytes 8\nsummary arenas given 0 back 0 most 0\nsummary traced 0 peak 0\n"
+        )
+    );
+    let unlocked = replay(
+        alloc,
+        b"pymtrace 1\ntrack t\nfree r x\nmalloc m x 9223372036854775808\nmalloc m x 9223372036854775807\n",
+    )?;
+    assert!(rt;
+        ends_with(
+            &unlocked,
+            1,
+            b"1 t free r x = ok\n2 t malloc m x 9223372036854775808 = null\n3 t malloc m x 9223372036854775807 = fault\n  unlocked\nsummary events 3 status 1\nsummary lock free\nsummary blocks 0 bytes 0\nsummary arenas given 0 back 0 most 0\nsummary traced 0 peak 0\n"
+        )
+    );
+    Ok(())
+}
+
+#[test]
+fn a_refusal_is_one_line(rt: HostRuntime) -> Result<(), Fail> {
+    let alloc = rt.alloc();
+    let refusals = [
+        ("replai", FIRST, None, 2, b"pymtrace: usage\n".as_slice()),
+        (
+            "replay",
+            b"pymtrace 1\ntrack t\nacquire\nmalloc m x 8\npoke x -8 6d\n".as_slice(),
+            None,
+            3,
+            b"pymtrace: line 5: ForgedLetter\n".as_slice(),
+        ),
+        (
+            "replay",
+            b"pymtrace 1\ntrack t\nmalloc m x 007\n".as_slice(),
+            None,
+            3,
+            b"pymtrace: line 3: BadNumber\n".as_slice(),
+        ),
+        (
+            "replay",
+            FIRST,
+            Some(1),
+            4,
+            b"pymtrace: read fault\n".as_slice(),
+        ),
+    ];
+    for (word, input, fail_at, status, line) in refusals {
+        let given = run_over(alloc, word, input, fail_at, 4096, 4096)?;
+        assert_eq!(rt; given.status, status);
+        assert_eq!(rt; given.err.as_slice(), line);
+        assert!(rt; given.out.is_empty());
+        let untold = run_over(alloc, word, input, fail_at, 4096, 9)?;
+        assert_eq!(rt; untold.status, 5);
+        assert_eq!(rt; untold.err.as_slice(), b"pymtrace:".as_slice());
+        assert!(rt; untold.out.is_empty());
+    }
+    Ok(())
+}
+
+#[test]
+fn an_input_may_have_so_many_bytes(rt: HostRuntime) -> Result<(), Fail> {
+    let alloc = rt.alloc();
+    let longest = vec![in alloc; b'x'; 16_777_216]?;
+    let given = replay(alloc, longest.as_slice())?;
+    assert_eq!(rt; given.status, 3);
+    assert_eq!(rt;
+        given.err.as_slice(),
+        b"pymtrace: line 1: BadEnd\n".as_slice()
+    );
+    let longer = vec![in alloc; b'x'; 16_777_217]?;
+    let given = replay(alloc, longer.as_slice())?;
+    assert_eq!(rt; given.status, 7);
+    assert_eq!(rt;
+        given.err.as_slice(),
+        b"pymtrace: input too long\n".as_slice()
+    );
+    Ok(())
+}
+
+#[test]
+fn a_sink_that_fails_cuts_the_report(rt: HostRuntime) -> Result<(), Fail> {
+    let alloc = rt.alloc();
+    for limit in 0..FIRST_REPORT.len() {
+        let given = run_over(alloc, "replay", FIRST, None, limit as u64, 4096)?;
+        assert_eq!(rt; given.status, 5);
+        assert_eq!(rt; Some(given.out.as_slice()), FIRST_REPORT.get(..limit));
+        assert!(rt; given.err.is_empty());
+    }
+    let given = run_over(alloc, "replay", FIRST, None, 30, 4096)?;
+    assert_eq!(rt;
+        given.out.as_slice(),
+        b"1 t acquire = ok\n2 t malloc m ".as_slice()
+    );
+    assert_eq!(rt; given.events, 2);
+    let whole = run_over(
+        alloc,
+        "replay",
+        FIRST,
+        None,
+        FIRST_REPORT.len() as u64,
+        4096,
+    )?;
+    assert_eq!(rt; whole.status, 0);
+    Ok(())
+}

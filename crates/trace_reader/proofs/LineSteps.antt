@@ -1,0 +1,25 @@
+-- Reading line after line, as a loop does.
+use Rattle.std.proofs.Common.{◌≡◌, ℕ, ◌+◌, Bool, cond, List, [], ◌∷◌, Result, Ok, Err, sym, ap, ◌∙◌}
+use Rattle.std.specs.List.{slice_split}
+use Rattle.trace_model.specs.Plain.{PlainTrace}
+use Rattle.trace_model.specs.declared.cause.TraceCause.{TraceCause}
+use Rattle.trace_model.specs.declared.cause.TraceCause.TheVariants.{BadEnd}
+use Rattle.trace_model.specs.Reading.{Place, then_lines, line_at, lines_at, is_empty}
+use Rattle.trace_model.proofs.LineSteps.{with_line}
+use Rattle.trace_reader.specs.declared.error.LineError.{LineError}
+use Rattle.trace_reader.specs.declared.error.LineError.TheVariants as line
+use Rattle.trace_reader.specs.Answers.{Fails, placed, Stops}
+
+module _ (p : ℕ → Bool) (k : ℕ) (t : PlainTrace) (rest text after : List ℕ) (total : Result PlainTrace Place) (parts : slice_split p rest ≡ text ∷ slice_split p after) (read_so_far : lines_at k t (slice_split p rest) ≡ total) where
+  abbrev followed : Result PlainTrace TraceCause → Result PlainTrace Place
+  followed r = then_lines k r (λ u. lines_at (k + 1) u (slice_split p after))
+
+  one_more : followed (line_at t text) ≡ total
+  one_more = sym (with_line p rest text after parts k t) ∙ read_so_far
+
+  pub goes_on : (u : PlainTrace) → line_at t text ≡ Ok u → lines_at (k + 1) u (slice_split p after) ≡ total
+  goes_on u read = sym (ap followed read) ∙ one_more
+
+  pub stops : (e : LineError) → Fails e (line_at t text) → Stops (placed k e) total
+  stops line.OutOfMemory read = tt
+  stops (line.Wrong c) read = sym one_more ∙ ap followed read

@@ -1,0 +1,37 @@
+-- What the functions that read answer, beside what reading gives.
+use Rattle.std.specs.Prelude.{◌≡◌, ℕ, Result, Ok, Err}
+use Rattle.trace_model.specs.declared.cause.TraceCause.{TraceCause}
+use Rattle.trace_model.specs.Reading.{Place}
+use Rattle.trace_reader.specs.declared.error.LineError.{LineError}
+use Rattle.trace_reader.specs.declared.error.LineError.TheVariants as line
+use Rattle.trace_reader.specs.declared.error.TraceError.{TraceError}
+use Rattle.trace_reader.specs.declared.error.TraceError.TheVariants as whole
+
+-- ---- of a line
+
+-- a fault that reading gives, unless memory ran out
+abbrev pub Fails : {Y : Type 0} → LineError → Result Y TraceCause → Type 0
+Fails line.OutOfMemory read = Unit {0}
+Fails (line.Wrong c) read = read ≡ Err c
+
+-- what a function answered, seen by view, is what reading gives, unless memory ran out
+abbrev pub Gives : {X Y : Type 0} → (X → Y) → Result X LineError → Result Y TraceCause → Type 0
+Gives view (Ok x) read = read ≡ Ok (view x)
+Gives view (Err e) read = Fails e read
+
+-- ---- of a whole trace
+
+-- a fault of the line with that number
+abbrev pub placed : ℕ → LineError → TraceError
+placed k line.OutOfMemory = whole.OutOfMemory
+placed k (line.Wrong c) = whole.At k c
+
+-- the place at which reading stops, unless memory ran out
+abbrev pub Stops : {Y : Type 0} → TraceError → Result Y Place → Type 0
+Stops whole.OutOfMemory read = Unit {0}
+Stops (whole.At k c) read = read ≡ Err (k, c)
+
+-- what a function answered, seen by view, is what reading gives, unless memory ran out
+abbrev pub Reads : {X Y : Type 0} → (X → Y) → Result X TraceError → Result Y Place → Type 0
+Reads view (Ok x) read = read ≡ Ok (view x)
+Reads view (Err e) read = Stops e read

@@ -1,0 +1,202 @@
+ghost use Rattle.std.specs.Prelude.{◌≡◌, ◌*◌, ◌+◌, ◌-◌, ◌^◌, ◌≤◌, ◌&&◌, nat_lt, length, IfOk, Some, None, if◌then◌else◌};
+ghost use Rattle.std.specs.List.{list_all};
+ghost use Rattle.block_model.specs.Block.{IsOffset};
+ghost use Rattle.trace_model.specs.Spelling.{is_between, is_name_byte};
+ghost use Rattle.trace_model.specs.Reading.{digits_from, number_at, offset_at, forward_at, backward_at, count_at, name_at, letter_at, hex_from, hex_at, keyword_at, digit_of};
+ghost use Rattle.trace_reader.specs.Answers.{Gives};
+
+use crate::error::LineError;
+use mem_base::limits::{MAX_NAME, MAX_REACH};
+use mem_base::{Letter, List};
+use std::alloc::Global;
+use trace_model::{Keyword, TraceCause};
+
+/// The first word of a line.
+pub fn read_keyword(word: &[u8]) -> Result<Keyword, TraceCause>
+    ensures { result ≡ keyword_at word.now }
+{
+    if word == b"track".as_slice() {
+        Ok(Keyword::Track)
+    } else if word == b"acquire".as_slice() {
+        Ok(Keyword::Acquire)
+    } else if word == b"release".as_slice() {
+        Ok(Keyword::Release)
+    } else if word == b"malloc".as_slice() {
+        Ok(Keyword::Malloc)
+    } else if word == b"free".as_slice() {
+        Ok(Keyword::Free)
+    } else if word == b"poke".as_slice() {
+        Ok(Keyword::Poke)
+    } else if word == b"peek".as_slice() {
+        Ok(Keyword::Peek)
+    } else {
+        Err(TraceCause::UnknownWord)
+    }
+}
+
+// The number with one more digit, where it fits.
+fn with_digit(value: u64, byte: u8) -> Option<u64>
+    ensures { result ≡ (if is_between 48 57 byte && nat_lt (value * 10 + (byte - 48)) (2 ^ 64) then Some (value * 10 + (byte - 48)) else None) }
+{
+    if byte < b'0' || byte > b'9' {
+        return None;
+    }
+    value.checked_mul(10)?.checked_add(u64::from(byte - b'0'))
+}
+
+// The number that the digits spell.
+fn digits(word: &[u8]) -> Result<u64, TraceCause>
+    ensures { result ≡ digits_from 0 word.now }
+{
+    let mut value = 0;
+    for byte in word {
+        match with_digit(value, *byte) {
+            Some(next) => value = next,
+            None => return Err(TraceCause::BadNumber),
+        }
+    }
+    Ok(value)
+}
+
+/// A number in decimal.
+pub fn number(word: &[u8]) -> Result<u64, TraceCause>
+    ensures { result ≡ number_at word.now }
+{
+    match word {
+        [] => Err(TraceCause::BadNumber),
+        [b'0', _, ..] => Err(TraceCause::BadNumber),
+        _ => digits(word),
+    }
+}
+
+// An offset from a block's data on.
+fn forward(value: u64) -> Result<i64, TraceCause>
+    ensures value { result ≡ forward_at value }
+    ensures range { IfOk result IsOffset }
+{
+    if value > i64::MAX as u64 {
+        return Err(TraceCause::BadRange);
+    }
+    Ok(value as i64)
+}
+
+// An offset before a block's data.
+fn backward(value: u64) -> Result<i64, TraceCause>
+    ensures value { result ≡ backward_at value }
+    ensures range { IfOk result IsOffset }
+{
+    match value {
+        0 => Err(TraceCause::BadNumber),
+        1..=8 => Ok(-(value as i64)),
+        _ => Err(TraceCause::BadRange),
+    }
+}
+
+/// An offset from a block's data.
+#[tactic(auto, unfolding(trace_model::specs::Reading::offset_at))]
+pub fn offset(word: &[u8]) -> Result<i64, TraceCause>
+    ensures value { result ≡ offset_at word.now }
+    ensures range { IfOk result IsOffset }
+{
+    match word.split_first() {
+        Some((b'-', digits)) => backward(number(digits)?),
+        _ => forward(number(word)?),
+    }
+}
+
+/// How many bytes are read.
+#[tactic(auto, unfolding(trace_model::specs::Reading::count_at))]
+pub fn count(word: &[u8]) -> Result<u64, TraceCause>
+    ensures value { result ≡ count_at word.now }
+    ensures range { IfOk result (λ n. (1 ≤ n) × (n ≤ MAX_REACH)) }
+{
+    let value = number(word)?;
+    if value < 1 || value > MAX_REACH {
+        return Err(TraceCause::BadRange);
+    }
+    Ok(value)
+}
+
+fn is_name_byte(b: u8) -> bool
+    ensures { result ≡ is_name_byte b }
+{
+    matches!(b, b'0'..=b'9' | b'A'..=b'Z' | b'a'..=b'z' | b'_')
+}
+
+// Whether each byte may stand in a name.
+fn has_name_bytes(word: &[u8]) -> bool
+    ensures { result ≡ list_all is_name_byte word.now }
+{
+    word.iter().all(|b| is_name_byte(*b))
+}
+
+/// Whether the word is a name.
+pub fn name(word: &[u8]) -> Result<(), TraceCause>
+    ensures { result ≡ name_at word.now }
+{
+    if word.is_empty() || word.len() > MAX_NAME {
+        return Err(TraceCause::BadName);
+    }
+    if !has_name_bytes(word) {
+        return Err(TraceCause::BadName);
+    }
+    Ok(())
+}
+
+/// The letter of a domain.
+#[tactic(auto, unfolding(trace_model::specs::Reading::letter_at))]
+pub fn letter(word: &[u8]) -> Result<Letter, TraceCause>
+    ensures { result ≡ letter_at word.now }
+{
+    if word == b"r".as_slice() {
+        Ok(Letter::Raw)
+    } else if word == b"m".as_slice() {
+        Ok(Letter::Mem)
+    } else if word == b"o".as_slice() {
+        Ok(Letter::Obj)
+    } else {
+        Err(TraceCause::UnknownWord)
+    }
+}
+
+fn digit(byte: u8) -> Option<u8>
+    ensures { result ≡ digit_of byte }
+{
+    match byte {
+        b'0'..=b'9' => Some(byte - b'0'),
+        b'a'..=b'f' => Some(byte - 87),
+        _ => None,
+    }
+}
+
+// The bytes that the digits spell, two digits for each.
+fn hex_bytes(alloc: Global, word: &[u8]) -> Result<Vec<u8>, LineError>
+    ensures { Gives (λ v. v.items) result (hex_from word.now) }
+{
+    let mut bytes = Vec::new(alloc);
+    let mut rest = word;
+    while let [high, low, after @ ..] = rest {
+        match (digit(*high), digit(*low)) {
+            (Some(high), Some(low)) => bytes.push(16 * high + low)?,
+            _ => return Err(LineError::Wrong(TraceCause::BadHex)),
+        }
+        rest = after;
+    }
+    if !rest.is_empty() {
+        return Err(LineError::Wrong(TraceCause::BadHex));
+    }
+    Ok(bytes)
+}
+
+/// The bytes of a poke.
+#[tactic(auto, unfolding(trace_model::specs::Reading::hex_at))]
+pub fn hex(alloc: Global, word: &[u8]) -> Result<List<u8>, LineError>
+    ensures value { Gives (λ v. v) result (hex_at word.now) }
+    ensures range { IfOk result (λ v. (1 ≤ length v) × (length v ≤ MAX_REACH)) }
+{
+    let bytes = hex_bytes(alloc, word)?;
+    if bytes.is_empty() || bytes.len() as u64 > MAX_REACH {
+        return Err(LineError::Wrong(TraceCause::BadRange));
+    }
+    Ok(List::from_vec(bytes))
+}

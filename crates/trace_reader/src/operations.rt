@@ -1,0 +1,118 @@
+ghost use Rattle.std.specs.Prelude.{◌≡◌, ◌-◌, ◌<◌, ◌^◌, length, map, IfOk, slice_get, Some, Ok, Err, false, if◌then◌else◌};
+ghost use Rattle.trace_model.specs.Plain.{action_of};
+ghost use Rattle.trace_model.specs.Known.{IsKnown, IsKnownOp};
+ghost use Rattle.trace_model.specs.Spelling.{is_forged};
+ghost use Rattle.trace_model.specs.Reading.{malloc_at, free_at, poke_at, peek_at, action_at, is_track};
+ghost use Rattle.trace_model.specs.declared.cause.TraceCause.TheVariants.{ForgedLetter};
+ghost use Rattle.trace_reader.specs.Answers.{Gives};
+ghost use Rattle.trace_reader.specs.Progress.{Extends};
+
+use crate::error::LineError;
+use crate::operands::{count, hex, letter, name, number, offset};
+use mem_base::{List, Op, TextId, Texts};
+use std::alloc::{AllocError, Global};
+use trace_model::{Keyword, TraceCause};
+
+/// The number of the name in the table.
+#[tactic(auto, using(crate::proofs::Growth::interned_extends, crate::proofs::Growth::is_within))]
+pub fn intern(texts: &mut Texts, name: &[u8]) -> Result<TextId, AllocError>
+    requires { length texts.old < 2 ^ 32 - 1 }
+    ensures grows { Extends texts.old texts.new }
+    ensures number { IfOk result (λ id. slice_get texts.new id.0 ≡ Some name.now) }
+    ensures known { IfOk result (IsKnown texts.new) }
+{
+    texts.intern(name)
+}
+
+#[tactic(auto, unfolding(trace_model::specs::Reading::malloc_at))]
+fn malloc(texts: &mut Texts, domain: &[u8], block: &[u8], size: &[u8]) -> Result<Op, LineError>
+    requires { length texts.old < 2 ^ 32 - 1 }
+    ensures grows { Extends texts.old texts.new }
+    ensures op { Gives (action_of texts.new) result (malloc_at domain.now block.now size.now) }
+    ensures known { IfOk result (IsKnownOp texts.new) }
+{
+    let domain = letter(domain)?;
+    name(block)?;
+    let size = number(size)?;
+    Ok(Op::Malloc(domain, intern(texts, block)?, size))
+}
+
+#[tactic(auto, unfolding(trace_model::specs::Reading::free_at))]
+fn free(texts: &mut Texts, domain: &[u8], block: &[u8]) -> Result<Op, LineError>
+    requires { length texts.old < 2 ^ 32 - 1 }
+    ensures grows { Extends texts.old texts.new }
+    ensures op { Gives (action_of texts.new) result (free_at domain.now block.now) }
+    ensures known { IfOk result (IsKnownOp texts.new) }
+{
+    let domain = letter(domain)?;
+    name(block)?;
+    Ok(Op::Free(domain, intern(texts, block)?))
+}
+
+// Refuses a poke that would write a domain's letter where a block keeps its own.
+fn unforged(at: &i64, bytes: &List<u8>) -> Result<(), TraceCause>
+    ensures { result ≡ (if is_forged at.now bytes.now then Err ForgedLetter else Ok tt) }
+{
+    if *at == -8 && matches!(bytes.as_slice().first(), Some(b'r' | b'm' | b'o')) {
+        return Err(TraceCause::ForgedLetter);
+    }
+    Ok(())
+}
+
+#[tactic(auto, unfolding(trace_model::specs::Reading::poke_at))]
+fn poke(
+    alloc: Global,
+    texts: &mut Texts,
+    block: &[u8],
+    at: &[u8],
+    digits: &[u8],
+) -> Result<Op, LineError>
+    requires { length texts.old < 2 ^ 32 - 1 }
+    ensures grows { Extends texts.old texts.new }
+    ensures op { Gives (action_of texts.new) result (poke_at block.now at.now digits.now) }
+    ensures known { IfOk result (IsKnownOp texts.new) }
+{
+    name(block)?;
+    let at = offset(at)?;
+    let bytes = hex(alloc, digits)?;
+    unforged(&at, &bytes)?;
+    Ok(Op::Poke(intern(texts, block)?, at, bytes))
+}
+
+#[tactic(auto, unfolding(trace_model::specs::Reading::peek_at))]
+fn peek(texts: &mut Texts, block: &[u8], at: &[u8], size: &[u8]) -> Result<Op, LineError>
+    requires { length texts.old < 2 ^ 32 - 1 }
+    ensures grows { Extends texts.old texts.new }
+    ensures op { Gives (action_of texts.new) result (peek_at block.now at.now size.now) }
+    ensures known { IfOk result (IsKnownOp texts.new) }
+{
+    name(block)?;
+    let at = offset(at)?;
+    let size = count(size)?;
+    Ok(Op::Peek(intern(texts, block)?, at, size))
+}
+
+/// The operation that the words after the keyword name.
+#[tactic(auto, unfolding(trace_model::specs::Reading::action_at))]
+pub fn read_op(
+    alloc: Global,
+    texts: &mut Texts,
+    keyword: Keyword,
+    words: &[&[u8]],
+) -> Result<Op, LineError>
+    requires operation { is_track keyword ≡ false }
+    requires room { length texts.old < 2 ^ 32 - 1 }
+    ensures grows { Extends texts.old texts.new }
+    ensures op { Gives (action_of texts.new) result (action_at keyword (map (λ w. w.now) words.now)) }
+    ensures known { IfOk result (IsKnownOp texts.new) }
+{
+    match (keyword, words) {
+        (Keyword::Acquire, []) => Ok(Op::Acquire),
+        (Keyword::Release, []) => Ok(Op::Release),
+        (Keyword::Malloc, [domain, block, size]) => malloc(texts, domain, block, size),
+        (Keyword::Free, [domain, block]) => free(texts, domain, block),
+        (Keyword::Poke, [block, at, digits]) => poke(alloc, texts, block, at, digits),
+        (Keyword::Peek, [block, at, size]) => peek(texts, block, at, size),
+        _ => Err(LineError::Wrong(TraceCause::BadWords)),
+    }
+}

@@ -1,0 +1,154 @@
+ghost use Rattle.std.specs.Prelude.{◌≡◌, ◌≢◌, ◌+◌, ◌<◌, ◌≤◌, ◌-◌, ◌^◌, length, map, IfOk, OnOk, IsSome, slice_get, Some, Ok, Err, false, if◌then◌else◌};
+ghost use Rattle.std.specs.Str.{bytes_eq};
+ghost use Rattle.std.specs.List.{list_all, list_any};
+ghost use Rattle.trace_model.specs.Spelling.{is_between};
+ghost use Rattle.trace_model.specs.Reading.{line_at, words_at, item_at, start_at, is_empty, is_track, opening};
+ghost use Rattle.trace_model.specs.declared.cause.TraceCause.TheVariants.{SameTrack, TooMany};
+ghost use Rattle.trace_reader.specs.Answers.{Gives};
+ghost use Rattle.trace_reader.specs.Progress.{so_far, IsKnownSoFar, pushed};
+
+use crate::error::LineError;
+use crate::operands::{name, read_keyword};
+use crate::operations::{intern, read_op};
+use crate::words::words_of;
+use mem_base::limits::MAX_OPS;
+use mem_base::{List, Op, TextId, Texts};
+use std::alloc::{AllocError, Global};
+use trace_model::{Keyword, TraceCause};
+
+/// What was read so far: the track, where there is one, and its operations.
+#[derive(Drop)]
+pub struct Progress {
+    pub texts: Texts,
+    pub track: Option<TextId>,
+    pub ops: List<Op>,
+}
+
+// Adds an operation, if there is room for it.
+fn push_op(ops: &mut List<Op>, op: Op) -> Result<(), LineError>
+    ensures { Gives (λ _. ops.new) result (pushed ops.old op) }
+{
+    if ops.len() >= MAX_OPS {
+        return Err(LineError::Wrong(TraceCause::TooMany));
+    }
+    ops.push(op)?;
+    Ok(())
+}
+
+// Why a track may not follow another: it has the same name, or it is one too many.
+fn another(first: &[u8], second: &[u8]) -> TraceCause
+    ensures { result ≡ (if bytes_eq first.now second.now then SameTrack else TooMany) }
+{
+    if first == second {
+        TraceCause::SameTrack
+    } else {
+        TraceCause::TooMany
+    }
+}
+
+fn is_plain(line: &[u8]) -> bool
+    ensures { result ≡ list_all (is_between 32 126) line.now }
+{
+    line.iter().all(|b| (32..=126).contains(b))
+}
+
+fn has_empty(words: &[&[u8]]) -> bool
+    ensures { result ≡ list_any (λ w. is_empty w.now) words.now }
+{
+    words.iter().any(|w| w.is_empty())
+}
+
+impl Progress {
+    /// A trace of which the header alone was read.
+    pub fn new(alloc: Global) -> Result<Progress, AllocError>
+        ensures known { IfOk result (λ p. IsKnownSoFar p.texts p.track p.ops) }
+        ensures none { IfOk result (λ p. so_far p.texts p.track p.ops ≡ opening) }
+    {
+        Ok(Progress {
+            texts: Texts::new(alloc)?,
+            track: None,
+            ops: List::new(alloc),
+        })
+    }
+
+    /// Takes one more line, without its end.
+    #[tactic(auto, unfolding(trace_model::specs::Reading::line_at))]
+    pub fn line(&mut self, alloc: Global, line: &[u8]) -> Result<(), LineError>
+        requires { IsKnownSoFar self.old.texts self.old.track self.old.ops }
+        ensures known { OnOk result (IsKnownSoFar self.new.texts self.new.track self.new.ops) }
+        ensures read { Gives (λ _. so_far self.new.texts self.new.track self.new.ops) result
+            (line_at (so_far self.old.texts self.old.track self.old.ops) line.now) }
+    {
+        if !is_plain(line) {
+            return Err(LineError::Wrong(TraceCause::BadByte));
+        }
+        let words = words_of(alloc, line)?;
+        self.words(alloc, words.as_slice())
+    }
+
+    // Takes the words of a line.
+    #[tactic(auto, using(crate::proofs::Growth::any_map))]
+    fn words(&mut self, alloc: Global, words: &[&[u8]]) -> Result<(), LineError>
+        requires { IsKnownSoFar self.old.texts self.old.track self.old.ops }
+        ensures known { OnOk result (IsKnownSoFar self.new.texts self.new.track self.new.ops) }
+        ensures read { Gives (λ _. so_far self.new.texts self.new.track self.new.ops) result
+            (words_at (so_far self.old.texts self.old.track self.old.ops) (map (λ w. w.now) words.now)) }
+    {
+        let Some((first, operands)) = words.split_first() else {
+            return Err(LineError::Wrong(TraceCause::UnknownWord));
+        };
+        let keyword = read_keyword(first)?;
+        if keyword != Keyword::Track && self.track.is_none() {
+            return Err(LineError::Wrong(TraceCause::Misplaced));
+        }
+        if has_empty(operands) {
+            return Err(LineError::Wrong(TraceCause::BadWords));
+        }
+        self.item(alloc, keyword, operands)
+    }
+
+    // Takes the operands of a line.
+    fn item(&mut self, alloc: Global, keyword: Keyword, words: &[&[u8]]) -> Result<(), LineError>
+        requires known { IsKnownSoFar self.old.texts self.old.track self.old.ops }
+        requires begun { is_track keyword ≡ false → IsSome self.old.track }
+        ensures known { OnOk result (IsKnownSoFar self.new.texts self.new.track self.new.ops) }
+        ensures read { Gives (λ _. so_far self.new.texts self.new.track self.new.ops) result
+            (item_at (so_far self.old.texts self.old.track self.old.ops) keyword (map (λ w. w.now) words.now)) }
+    {
+        match keyword {
+            Keyword::Track => self.start(words),
+            _ => self.action(alloc, keyword, words),
+        }
+    }
+
+    // Begins the track.
+    fn start(&mut self, words: &[&[u8]]) -> Result<(), LineError>
+        requires { IsKnownSoFar self.old.texts self.old.track self.old.ops }
+        ensures known { OnOk result (IsKnownSoFar self.new.texts self.new.track self.new.ops) }
+        ensures read { Gives (λ _. so_far self.new.texts self.new.track self.new.ops) result
+            (start_at (so_far self.old.texts self.old.track self.old.ops) (map (λ w. w.now) words.now)) }
+    {
+        let [text] = words else {
+            return Err(LineError::Wrong(TraceCause::BadWords));
+        };
+        name(text)?;
+        if let Some(track) = self.track {
+            return Err(LineError::Wrong(another(self.texts.get(track), text)));
+        }
+        self.track = Some(intern(&mut self.texts, text)?);
+        Ok(())
+    }
+
+    // Takes the operands of an operation.
+    fn action(&mut self, alloc: Global, keyword: Keyword, words: &[&[u8]]) -> Result<(), LineError>
+        requires known { IsKnownSoFar self.old.texts self.old.track self.old.ops }
+        requires operation { is_track keyword ≡ false }
+        requires begun { IsSome self.old.track }
+        ensures known { OnOk result (IsKnownSoFar self.new.texts self.new.track self.new.ops) }
+        ensures read { Gives (λ _. so_far self.new.texts self.new.track self.new.ops) result
+            (item_at (so_far self.old.texts self.old.track self.old.ops) keyword (map (λ w. w.now) words.now)) }
+    {
+        let op = read_op(alloc, &mut self.texts, keyword, words)?;
+        push_op(&mut self.ops, op)
+    }
+}
