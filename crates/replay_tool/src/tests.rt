@@ -1,8 +1,10 @@
 use crate::run;
-use mem_base::List;
+use machine_core::Machine;
+use mem_base::{List, Reply, Step};
 use std::alloc::{AllocError, Global};
 use std::test::Fail;
 use streams::{MemSink, MemSource};
+use trace_reader::read_trace;
 
 // What a run over memory gave: its status, the number of its events, and what the sinks received.
 #[derive(Drop)]
@@ -200,5 +202,35 @@ fn a_sink_that_fails_cuts_the_report(rt: HostRuntime) -> Result<(), Fail> {
         4096,
     )?;
     assert_eq!(rt; whole.status, 0);
+    Ok(())
+}
+
+// The next event of the machine, where there is one.
+fn next_step(machine: &mut Machine) -> Option<Step> {
+    if machine.faulted() {
+        return None;
+    }
+    let t = machine.first_ready()?;
+    machine.step(t).ok()
+}
+
+#[test]
+fn a_machine_does_one_event_at_a_time(rt: HostRuntime) -> Result<(), Fail> {
+    let trace = read_trace(rt.alloc(), FIRST)?;
+    let mut machine = Machine::new(rt.alloc(), trace)?;
+    assert_eq!(rt; machine.trace().tracks.len(), 1);
+    assert_eq!(rt; machine.texts().find(b"x").map(|id| id.0), Some(2));
+    assert!(rt; machine.ready(0));
+    assert_eq!(rt; machine.first_ready(), Some(0));
+    assert!(rt; next_step(&mut machine).is_some_and(|step| step.reply == Reply::Ok));
+    assert!(rt; next_step(&mut machine).is_some_and(|step| step.entry.at == 1));
+    let totals = machine.totals();
+    assert_eq!(rt; totals.events, 2);
+    assert_eq!(rt; totals.owner, Some(0));
+    assert_eq!(rt; totals.blocks, 1);
+    assert_eq!(rt; totals.bytes, 4);
+    assert_eq!(rt; machine.history().entries.len(), 2);
+    assert!(rt; !machine.faulted());
+    assert_eq!(rt; machine.end().entries.len(), 2);
     Ok(())
 }

@@ -1,15 +1,14 @@
 -- An operation that was read is added to the trace.
-use Rattle.std.proofs.Common.{◌≡◌, ℕ, ◌+◌, ◌<◌, ◌≤◌, Bool, true, false, cond, List, [], ◌∷◌, ◌++◌, length, Option, Some, None, Result, Ok, Err, refl, sym, ap, subst, ◌∙◌, arith, map, length-append}
+use Rattle.std.proofs.Common.{◌≡◌, ℕ, ◌+◌, ◌<◌, Bool, true, false, cond, List, [], ◌∷◌, ◌++◌, length, Option, Some, None, Result, Ok, Err, refl, sym, ap, subst, ◌∙◌, arith, length-append}
 use Rattle.std.specs.Prelude.{IsSome, OnOk, nat_lt}
-use Rattle.std.specs.List.{AllByRecursion}
 use Rattle.std.proofs.lemmas.Bool.{ltb-true}
 use Rattle.std.proofs.lemmas.List.{map-append, length-map}
 use Rattle.mem_base.specs.declared.limits.TheConstants.{MAX_OPS}
 use Rattle.mem_base.specs.declared.texts.TextId.{TextId}
 use Rattle.mem_base.specs.declared.trace.Op.{Op}
-use Rattle.trace_model.specs.Plain.{Name, Action, PlainTrack, PlainTrace, text_at, action_of}
+use Rattle.trace_model.specs.Plain.{Name, Action, PlainTrace, text_at, action_of}
 use Rattle.trace_model.specs.Spelling.{action_count}
-use Rattle.trace_model.specs.Known.{IsKnown, IsKnownOp}
+use Rattle.trace_model.specs.Known.{IsKnownOp}
 use Rattle.trace_model.specs.Reading.{◌>>=◌, is_track, action_at, item_at, add, with_action}
 use Rattle.trace_model.specs.declared.cause.TraceCause.{TraceCause}
 use Rattle.trace_model.specs.declared.cause.TraceCause.TheVariants.{TooMany}

@@ -8,7 +8,7 @@ use Rattle.mem_base.specs.Texts.{interned}
 use Rattle.mem_base.specs.declared.texts.TextId.{TextId}
 use Rattle.mem_base.specs.declared.trace.Op.{Op}
 use Rattle.mem_base.specs.declared.trace.Op.TheVariants.{Acquire, Release, Malloc, Free, Poke, Peek}
-use Rattle.trace_model.specs.Plain.{Name, Action, malloc, free, poke, peek, text_at, action_of}
+use Rattle.trace_model.specs.Plain.{Name, malloc, free, poke, peek, text_at, action_of}
 use Rattle.trace_model.specs.Known.{IsKnown, IsKnownOp}
 use Rattle.trace_reader.specs.Progress.{Extends, so_far, IsKnownSoFar}
 

@@ -1,10 +1,9 @@
 -- Reading line after line, as a loop does.
-use Rattle.std.proofs.Common.{◌≡◌, ℕ, ◌+◌, Bool, cond, List, [], ◌∷◌, Result, Ok, Err, sym, ap, ◌∙◌}
+use Rattle.std.proofs.Common.{◌≡◌, ℕ, ◌+◌, Bool, List, ◌∷◌, Result, Ok, sym, ap, ◌∙◌}
 use Rattle.std.specs.List.{slice_split}
 use Rattle.trace_model.specs.Plain.{PlainTrace}
 use Rattle.trace_model.specs.declared.cause.TraceCause.{TraceCause}
-use Rattle.trace_model.specs.declared.cause.TraceCause.TheVariants.{BadEnd}
-use Rattle.trace_model.specs.Reading.{Place, then_lines, line_at, lines_at, is_empty}
+use Rattle.trace_model.specs.Reading.{Place, then_lines, line_at, lines_at}
 use Rattle.trace_model.proofs.LineSteps.{with_line}
 use Rattle.trace_reader.specs.declared.error.LineError.{LineError}
 use Rattle.trace_reader.specs.declared.error.LineError.TheVariants as line

@@ -15,3 +15,6 @@ mod words;
 pub use error::TraceError;
 pub use lines::read_trace;
 pub use trace_model::TraceCause;
+
+#[cfg(test)]
+mod tests;

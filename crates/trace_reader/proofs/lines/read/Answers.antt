@@ -1,4 +1,4 @@
-use Rattle.std.proofs.Common.{◌≡◌, Bool, cond, sym, ap, subst, ◌∙◌, List, ℕ, Result, Ok, Err}
+use Rattle.std.proofs.Common.{Bool, cond, sym, ap, subst, ◌∙◌, List, ℕ, Result, Err}
 use Rattle.std.specs.Prelude.{◌==◌}
 use Rattle.std.specs.List.{slice_split}
 use Rattle.trace_model.specs.Plain.{PlainTrace, plain}

@@ -1,6 +1,6 @@
-use Rattle.std.proofs.Common.{◌≡◌, ◌+◌, ◌*◌, ◌++◌, ◌∷◌, [], List, ℕ, sym, ◌∙◌, subst, ap}
+use Rattle.std.proofs.Common.{sym, ◌∙◌}
 use Rattle.trace_model.specs.Reading.{hex_from}
-use Rattle.trace_reader.proofs.HexPairs.{with_front, pair_read}
+use Rattle.trace_reader.proofs.HexPairs.{pair_read}
 use Rattle.trace_reader.proofs.operands.hex_bytes.Goals as goal
 
 pub loop-rest-preserved : goal.loop-rest-preserved

@@ -1,0 +1,7 @@
+mod Crossing
+mod Rows
+pub mod Rules
+mod Runs
+mod Sharing
+mod Shells
+mod Walks
