@@ -16,7 +16,7 @@ use Rattle.event_model.proofs.HistoryLaws.{state_push}
 
 -- ---- what an operation leaves as it was
 
-record Keeps (s : State) (r : State × PlainReply) : Type 0 where
+pub record Keeps (s : State) (r : State × PlainReply) : Type 0 where
   pub done : r.0.done ≡ s.done
   pub faulted : r.0.faulted ≡ s.faulted
 
@@ -69,7 +69,7 @@ unlock_keeps : (s : State) (b : Bool) (owner : Option ℕ) → Keeps s (cond b (
 unlock_keeps s true owner = record { done = refl; faulted = refl }
 unlock_keeps s false owner = record { done = refl; faulted = refl }
 
-effect_keeps : (s : State) (t : ℕ) (a : Action) → Keeps s (effect s t a)
+pub effect_keeps : (s : State) (t : ℕ) (a : Action) → Keeps s (effect s t a)
 effect_keeps s t acquire = lock_keeps s (is_owner s.owner t) (Some t)
 effect_keeps s t release = unlock_keeps s (is_owner s.owner t) None
 effect_keeps s t (malloc v name n) = made_keeps s v name n (is_owner s.owner t) (find s.blocks name)

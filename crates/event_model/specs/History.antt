@@ -1,5 +1,5 @@
 -- Histories of events.
-use Rattle.std.specs.Prelude.{◌≡◌, ◌⊎◌, ℕ, true, false, List, [], ◌∷◌, map, length, slice_index, None}
+use Rattle.std.specs.Prelude.{◌≡◌, ◌⊎◌, ℕ, true, false, List, [], ◌∷◌, ◌++◌, map, length, slice_index, None}
 use Rattle.mem_base.specs.declared.history.Entry.{Entry}
 use Rattle.mem_base.specs.declared.history.Grant.TheVariants as grant
 use Rattle.mem_base.specs.declared.history.Ask.TheVariants as ask
@@ -8,7 +8,7 @@ use Rattle.mem_base.specs.declared.reply.Counts.{Counts}
 use Rattle.trace_model.specs.Plain.{PlainTrack}
 use Rattle.event_model.specs.Blocks.{total_size}
 use Rattle.event_model.specs.Effects.{State}
-use Rattle.event_model.specs.Events.{is_ready, event}
+use Rattle.event_model.specs.Events.{is_ready, event, is_fault}
 
 -- nothing is held, and nothing is done
 abbrev pub opening : List PlainTrack → State
@@ -47,6 +47,14 @@ IsDone tracks s = (t : ℕ) → is_ready tracks s t ≡ false
 -- at its end a fault has come, or no track is ready
 abbrev pub IsWhole : List PlainTrack → List Entry → Type 0
 IsWhole tracks es = (last_state tracks es).faulted ≡ true ⊎ IsDone tracks (last_state tracks es)
+
+-- the last event is a fault, and no fault came before it
+pub record EndsInFault (tracks : List PlainTrack) (es : List Entry) : Type 0 where
+  pub earlier : List Entry
+  pub last : Entry
+  pub all : es ≡ earlier ++ last ∷ []
+  pub sound : (last_state tracks earlier).faulted ≡ false
+  pub fault : is_fault (event tracks (last_state tracks earlier) last).1 ≡ true
 
 -- no arena was asked for
 abbrev pub no_counts : Counts

@@ -11,6 +11,7 @@ use Rattle.trace_model.specs.Reading.{Place, trace_at}
 use Rattle.trace_model.proofs.TraceLaws.{trace_again}
 use Rattle.event_model.specs.Effects.{State}
 use Rattle.event_model.specs.History.{last_state}
+use Rattle.event_model.proofs.FaultLaws.{ends_in_fault}
 use Rattle.report_model.specs.Report.{status_in}
 use Rattle.replay_tool.specs.declared.refusal.Refusal.{Refusal}
 use Rattle.replay_tool.specs.declared.refusal.Refusal.TheVariants.{Usage, Refused, ReadFault, TooLong}
@@ -72,11 +73,21 @@ at_most_one s n is = elim (in_two s n is) [ inl e ↦ omega (arith, e) | inr e �
 
 -- ---- what each status says
 
+fell : (b : Bool) → 1 ≡ zero_or_one b → b ≡ true
+fell true h = refl
+fell false h = absurd (omega arith)
+
 pub replayed_is : (r : Run) → Ended r → r.status ≤ 1 → IsReplayed r.words r.left r.left_then r.out r.out_then r.entries r.status
 replayed_is r (ran x) h = by x.ending
   where
     by : Ending x.trace.tracks r.entries r.out r.out_then r.out_faults r.out_faults_then r.status → IsReplayed r.words r.left r.left_then r.out r.out_then r.entries r.status
-    by (whole st run) = record { trace = x.trace; accepted = x.accepted; run = run; status_is = st }
+    by (whole st run) = record {
+      trace = x.trace;
+      accepted = x.accepted;
+      run = run;
+      status_is = st;
+      fault = λ one. ends_in_fault x.trace.tracks r.entries run.legal (fell (last_state x.trace.tracks r.entries).faulted (sym one ∙ st));
+    }
     by (cut st rose was) = absurd (omega (arith, st, h))
     by (ran_out st was) = absurd (omega (arith, st, h))
 replayed_is r (told refusal st t) h = absurd (omega (arith, st, h, status_least refusal))

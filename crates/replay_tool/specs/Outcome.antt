@@ -7,7 +7,7 @@ use Rattle.trace_model.specs.declared.cause.TraceCause.{TraceCause}
 use Rattle.trace_model.specs.Plain.{PlainTrace}
 use Rattle.trace_model.specs.Spelling.{spelling, IsWellFormed}
 use Rattle.trace_model.specs.Reading.{trace_at}
-use Rattle.event_model.specs.History.{last_state}
+use Rattle.event_model.specs.History.{last_state, EndsInFault}
 use Rattle.report_model.specs.Report.{status_in}
 use Rattle.replay_tool.specs.declared.refusal.Refusal.{Refusal}
 use Rattle.replay_tool.specs.Events.{RanWhole, WasCut, RanOut}
@@ -23,6 +23,7 @@ pub record IsReplayed (words : List (List ℕ)) (old new before now : Option (Li
   pub accepted : Accepted words old new trace
   pub run : RanWhole trace.tracks es before now
   pub status_is : status ≡ status_in (last_state trace.tracks es)
+  pub fault : status ≡ 1 → EndsInFault trace.tracks es
 
 -- the input was accepted, and a write of the report failed within a text
 pub record IsCutOff (words : List (List ℕ)) (old new before now : Option (List ℕ)) (es : List Entry) : Type 0 where
