@@ -81,10 +81,7 @@ fn checked_free<'a>(block: Option<&Guarded>, letter: Letter, name: TextId) -> (R
         return (Reply::Ok, Change::Nothing);
     };
     match check(block, letter) {
-        Some(fault) => (
-            Reply::Fault(fault, Some(report(block))),
-            Change::Nothing,
-        ),
+        Some(fault) => (Reply::Fault(fault, Some(report(block))), Change::Nothing),
         None => (Reply::Ok, Change::Remove(name)),
     }
 }
@@ -190,12 +187,7 @@ pub fn prepare<'a>(
             *size,
             owns_lock(owner, t),
         ),
-        Op::Free(letter, name) => Ok(free(
-            store.block(*name),
-            *letter,
-            *name,
-            owns_lock(owner, t),
-        )),
+        Op::Free(letter, name) => Ok(free(store.block(*name), *letter, *name, owns_lock(owner, t))),
         Op::Poke(name, offset, bytes) => Ok(poke(
             store.block(*name),
             *name,

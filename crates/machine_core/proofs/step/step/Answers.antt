@@ -15,7 +15,7 @@ pub settle-requires-clause-fits : goal.settle-requires-clause-fits
 settle-requires-clause-fits c =
     let known = c.requires.stands.known.ops c.args.t c.index-at.result.now c.in-Some.op.now (sym c.in-Some.ensures) in
     let here = here_is c.args.trace.now c.args.history.now.entries c.args.store.now c.args.owner.now c.args.done.now.items c.args.faulted.now c.args.t c.index-at.result.now c.in-Some.op.now
-        c.in-Ok.change (plain_reply c.in-Ok.reply) c.requires.stands c.index-at.ensures (sym c.in-Some.ensures) in
+    c.in-Ok.change (plain_reply c.in-Ok.reply) c.requires.stands c.index-at.ensures (sym c.in-Some.ensures) in
     omega (arith, known.1, here)
 
 pub returns-in-Ok-clause-stands : goal.returns-in-Ok-clause-stands
@@ -29,7 +29,7 @@ returns-in-Ok-clause-stands c =
     c.in-Ok.change (plain_reply c.in-Ok.reply) c.requires.stands c.index-at.ensures (sym c.in-Some.ensures) does
     _ refl refl refl refl c.requires.ready c.requires.sound c.in-Ok.ensures.may c.make.new.store c.make.ensures.store c.settle.new.owner
     (c.settle.ensures.owner ∙ (λ i. if is_fault (plain_reply c.in-Ok.reply) then c.make.ensures.owner i
-        else let_go (plain trace).tracks c.args.t (slice_index c.args.done.now.items c.args.t + 1) (c.make.ensures.owner i)))
+    else let_go (plain trace).tracks c.args.t (slice_index c.args.done.now.items c.args.t + 1) (c.make.ensures.owner i)))
     c.settle.new.done.items c.settle.ensures.done c.settle.new.faulted c.settle.ensures.faulted)
 
 pub returns-in-Ok-clause-step : goal.returns-in-Ok-clause-step
