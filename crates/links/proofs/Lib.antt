@@ -1,0 +1,4 @@
+pub mod NodeLemmas
+pub mod LinkLemmas
+pub mod Edits
+pub mod Calls
