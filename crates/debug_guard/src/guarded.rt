@@ -1,9 +1,10 @@
 ghost use Rattle.std.specs.Prelude.{◌≡◌, ◌+◌, ◌-◌, ◌<◌, ◌≤◌, ◌++◌, ◌^◌, length, take, drop, replicate, if◌then◌else◌};
-ghost use Rattle.debug_guard.specs.Guard.{size_word};
+ghost use Rattle.debug_guard.specs.Guard.{size_word, piece_of, guard_extent};
 ghost use Rattle.block_model.specs.Block.{fresh, new_byte, dead_byte, size_of, image_of};
+ghost use Rattle.extents.specs.Extent.{piece_extent};
 
-use crate::Piece;
 use mem_base::Letter;
+use raw_region::Piece;
 use std::marker::Model;
 
 /// What a byte of a pad holds.
@@ -27,16 +28,18 @@ impl Model for Guarded {
 
     ghost Value = { Guard };
 
-    ghost view = { λ g. record { body = take (g.size + 16) (drop 8 g.piece); room = length g.piece } };
+    ghost view = { λ g. record { place = g.piece.place; maker = g.piece.maker; body = take (g.size + 16) (drop 8 g.piece.bytes); rest = drop (g.size + 24) g.piece.bytes } };
 
-    ghost invariant = { λ g. (take 8 g.piece ≡ size_word g.size) × (g.size + 24 ≤ length g.piece) × (length g.piece < 2 ^ 63) };
+    ghost invariant = { λ g. (take 8 g.piece.bytes ≡ size_word g.size) × (g.size + 24 ≤ length g.piece.bytes) × (length g.piece.bytes < 2 ^ 63) };
 }
 
 /// Writes a new block for a call with this letter: its size word, its letter and pads, and n bytes
 /// of data, which hold 00 where `zero` says so and else CD.
 pub fn dress(mut piece: Piece, letter: Letter, n: u64, zero: bool) -> Guarded
-    requires { n + 24 ≤ length piece }
-    ensures { result ≡ record { body = fresh letter n (if zero then 0 else new_byte); room = length piece } }
+    requires { n + 24 ≤ length piece.bytes }
+    ensures body { result.body ≡ fresh letter n (if zero then 0 else new_byte) }
+    ensures kept { (result.place ≡ piece.place) × (result.maker ≡ piece.maker) × (result.rest ≡ drop (n + 24) piece.bytes) }
+    ensures extent { guard_extent result ≡ piece_extent piece }
 {
     write_block(piece.bytes_mut(), letter, n, first_byte(zero));
     Guarded { piece, size: n }
@@ -83,7 +86,8 @@ fn write_body(body: &mut [u8], letter: Letter, new: u8)
 
 /// Fills the piece with DD and gives it back.
 pub fn kill(g: Guarded) -> Piece
-    ensures { result ≡ replicate g.room dead_byte }
+    ensures dead { (result.place ≡ g.place) × (result.maker ≡ g.maker) × (result.bytes ≡ replicate (length (piece_of g).bytes) dead_byte) }
+    ensures extent { piece_extent result ≡ guard_extent g }
 {
     let Guarded { mut piece, size: _ } = g;
     piece.bytes_mut().fill(DEAD);
@@ -94,17 +98,16 @@ pub fn kill(g: Guarded) -> Piece
 pub fn size(g: &Guarded) -> u64
     ensures data { result ≡ size_of g.now.body }
     ensures body { result + 16 ≡ length g.now.body }
-    ensures room { result + 24 ≤ g.now.room }
+    ensures room { result + 24 ≤ length (piece_of g.now).bytes }
     ensures small { result < 2 ^ 63 }
 {
     g.size
 }
 
 /// The piece that the block lies in, for reading.
-#[tactic(auto, unfolding(crate::specs::Guard::size_word))]
 pub fn piece(g: &Guarded) -> &Piece
-    ensures image { take (length g.now.body + 8) result.now ≡ image_of g.now.body }
-    ensures room { length result.now ≡ g.now.room }
+    ensures piece { result.now ≡ piece_of g.now }
+    ensures long { (16 ≤ length g.now.body) × (length (image_of g.now.body) ≡ length g.now.body + 8) }
 {
     &g.piece
 }
@@ -122,7 +125,7 @@ impl Guarded {
     /// Writes over the body from this place on.
     pub(crate) fn write(&mut self, at: usize, bytes: &[u8])
         requires { at + length bytes.now ≤ length self.old.body }
-        ensures { self.new ≡ record { body = take at self.old.body ++ bytes.now ++ drop (at + length bytes.now) self.old.body; room = self.old.room } }
+        ensures { self.new ≡ record self.old { body = take at self.old.body ++ bytes.now ++ drop (at + length bytes.now) self.old.body } }
     {
         let size = self.size as usize;
         let (_, rest) = self.piece.bytes_mut().split_at_mut(8);

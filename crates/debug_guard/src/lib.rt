@@ -11,17 +11,16 @@
 //!
 //! The size word is written once, by `dress`. What follows it is the block's body: `poke` and
 //! `peek` reach all of it, by offsets from the data's start, and `check` finds the first byte of
-//! the letter and the pads that is not as `dress` wrote it. No call on a block takes memory.
+//! the letter and the pads that is not as `dress` wrote it. What lies behind the block in its piece
+//! stays as it is until `kill` fills the whole piece. No call on a block takes memory.
 #![tactic(auto)]
 
 mod checks;
 mod guarded;
-mod memory;
 mod reach;
 #[cfg(test)]
 mod tests;
 
 pub use checks::{check, report};
 pub use guarded::{Guarded, dress, kill, piece, size};
-pub use memory::Piece;
 pub use reach::{peek, poke};

@@ -1,5 +1,6 @@
 ghost use Rattle.std.specs.Prelude.{◌≡◌, IsTrue, false, Some, None, if◌then◌else◌, length};
 ghost use Rattle.std.specs.Option.{option_copied};
+ghost use Rattle.debug_guard.specs.Guard.{guard_extent};
 ghost use Rattle.block_model.specs.Block.{IsOffset, place_of, reaches, peeked, poked};
 
 use crate::Guarded;
@@ -10,9 +11,10 @@ use crate::Guarded;
 pub fn poke(g: &mut Guarded, off: i64, bytes: &[u8]) -> bool
     requires { IsOffset off }
     ensures reach { result ≡ reaches g.old.body off (length bytes.now) }
-    ensures written { IsTrue result → g.new ≡ record { body = poked g.old.body off bytes.now; room = g.old.room } }
+    ensures written { IsTrue result → g.new ≡ record g.old { body = poked g.old.body off bytes.now } }
     ensures outside { result ≡ false → g.new ≡ g.old }
     ensures size { length g.new.body ≡ length g.old.body }
+    ensures extent { guard_extent g.new ≡ guard_extent g.old }
 {
     let at = place(off);
     let end = g.body().len();

@@ -1,10 +1,35 @@
+ghost use Rattle.std.specs.Prelude.{◌≡◌, ◌≤◌, length, IfOk};
+ghost use Rattle.raw_region.specs.Cells.{AreLent};
+ghost use Rattle.extents.specs.Extent.{piece_extent, region_extent};
+
 use super::*;
 use mem_base::{BlockReport, Fault, Letter};
+use raw_region::{Piece, Region};
+use std::alloc::{AllocError, Global};
 use std::test::Fail;
+
+// A region of so many bytes at the address 4096, and all of it as a piece.
+fn lend(alloc: Global, len: u64) -> Result<(Region, Piece), AllocError>
+    requires { (1 ≤ len) × (len ≤ 4096) }
+    ensures { IfOk result (λ r. (piece_extent r.1 ≡ region_extent r.0) × AreLent r.0.cells 0 (length r.0.cells) × (length r.1.bytes ≡ len)) }
+{
+    let mut region = Region::new(alloc, 4096, len)?;
+    let piece = region.carve(0, len);
+    Ok((region, piece))
+}
+
+// Gives the memory up, once the piece that is all of it has come home.
+fn end(mut region: Region, piece: Piece)
+    requires { (piece_extent piece ≡ region_extent region) × AreLent region.cells 0 (length region.cells) }
+{
+    region.mend(piece);
+    region.end();
+}
 
 #[test]
 fn shows_the_image_of_two_bytes(rt: HostRuntime) -> Result<(), Fail> {
-    let mut g = dress(Piece::plain(rt.alloc(), 26)?, Letter::Mem, 2, false);
+    let (region, room) = lend(rt.alloc(), 26)?;
+    let mut g = dress(room, Letter::Mem, 2, false);
     let poked = poke(&mut g, 0, b"\x61\x62");
     assert!(rt; poked);
     assert_eq!(rt; size(&g), 2);
@@ -13,15 +38,17 @@ fn shows_the_image_of_two_bytes(rt: HostRuntime) -> Result<(), Fail> {
         0, 0, 0, 0, 0, 0, 0, 2, 0x6d, 0xfd, 0xfd, 0xfd, 0xfd, 0xfd, 0xfd, 0xfd, 0x61, 0x62, 0xfd,
         0xfd, 0xfd, 0xfd, 0xfd, 0xfd, 0xfd, 0xfd,
     ];
+    assert_eq!(rt; piece(&g).place(), 4096);
     assert_eq!(rt; piece(&g).len(), 26);
     assert!(rt; piece(&g).bytes() == image.as_slice());
-    let _piece = kill(g);
+    end(region, kill(g));
     Ok(())
 }
 
 #[test]
 fn finds_the_first_damage(rt: HostRuntime) -> Result<(), Fail> {
-    let mut g = dress(Piece::plain(rt.alloc(), 26)?, Letter::Mem, 2, true);
+    let (region, room) = lend(rt.alloc(), 26)?;
+    let mut g = dress(room, Letter::Mem, 2, true);
     let behind = poke(&mut g, 2, b"\x00");
     assert!(rt; behind);
     assert_eq!(rt; check(&g, Letter::Mem), Some(Fault::BadTail(0)));
@@ -39,13 +66,14 @@ fn finds_the_first_damage(rt: HostRuntime) -> Result<(), Fail> {
         tail: [0, 0xfd, 0xfd, 0xfd, 0xfd, 0xfd, 0xfd, 0xfd],
     };
     assert_eq!(rt; report(&g), shown);
-    let _piece = kill(g);
+    end(region, kill(g));
     Ok(())
 }
 
 #[test]
 fn reaches_the_body_alone(rt: HostRuntime) -> Result<(), Fail> {
-    let mut g = dress(Piece::plain(rt.alloc(), 40)?, Letter::Raw, 6, false);
+    let (region, room) = lend(rt.alloc(), 40)?;
+    let mut g = dress(room, Letter::Raw, 6, false);
     let body = [
         0x72, 0xfd, 0xfd, 0xfd, 0xfd, 0xfd, 0xfd, 0xfd, 0xcd, 0xcd, 0xcd, 0xcd, 0xcd, 0xcd, 0xfd,
         0xfd, 0xfd, 0xfd, 0xfd, 0xfd, 0xfd, 0xfd,
@@ -57,17 +85,17 @@ fn reaches_the_body_alone(rt: HostRuntime) -> Result<(), Fail> {
     assert!(rt; peek(&g, 14, 0) == Some(b"".as_slice()));
     assert!(rt; peek(&g, 15, 0).is_none());
     assert!(rt; peek(&g, i64::MAX, u64::MAX).is_none());
-    let _piece = kill(g);
+    end(region, kill(g));
     Ok(())
 }
 
 #[test]
 fn kills_the_whole_piece(rt: HostRuntime) -> Result<(), Fail> {
-    let g = dress(Piece::plain(rt.alloc(), 32)?, Letter::Obj, 8, true);
+    let (region, room) = lend(rt.alloc(), 32)?;
+    let g = dress(room, Letter::Obj, 8, true);
     assert!(rt; peek(&g, 0, 8) == Some([0; 8].as_slice()));
-    let mut dead = kill(g);
+    let dead = kill(g);
     assert!(rt; dead.bytes() == [0xdd; 32].as_slice());
-    dead.bytes_mut().fill(7);
-    assert!(rt; dead.bytes() == [7; 32].as_slice());
+    end(region, dead);
     Ok(())
 }

@@ -1,17 +1,16 @@
 -- Each event leaves less to do.
-use Rattle.std.proofs.Common.{◌≡◌, ℕ, zero, suc, ◌+◌, ◌<◌, Bool, true, false, cond, List, [], ◌∷◌, ◌++◌, length, slice_get, set, map, Option, Some, None, ℤ, refl, sym, ap, subst, ◌∙◌, arith, length-set, true≢false}
-use Rattle.std.specs.Prelude.{slice_index, nat_lt}
+use Rattle.std.proofs.Common.{◌≡◌, ℕ, zero, suc, ◌+◌, ◌<◌, ◌≤◌, Bool, true, false, cond, List, [], ◌∷◌, ◌++◌, length, slice_get, set, map, Option, Some, None, refl, sym, ap, subst, ◌∙◌, arith, length-set, true≢false}
+use Rattle.std.specs.Prelude.{slice_index}
 use Rattle.std.specs.Option.{option_and_then}
 use Rattle.std.proofs.lemmas.Option.{slice_get_within}
+use Rattle.std.proofs.lemmas.List.Sums.{sum_by-cons}
+use Rattle.mem_base.specs.declared.history.Ask.{Ask}
 use Rattle.mem_base.specs.declared.history.Entry.{Entry}
-use Rattle.mem_base.specs.declared.trace.Letter.{Letter}
-use Rattle.mem_base.specs.declared.reply.Fault.{Fault}
-use Rattle.trace_model.specs.Plain.{Name, Action, acquire, release, malloc, free, poke, peek, other, PlainTrack}
-use Rattle.block_model.specs.Block.{Body, finding_in, reaches, peeked, poked, fresh, new_byte}
-use Rattle.event_model.specs.Blocks.{find, put}
-use Rattle.event_model.specs.Effects.{State, PlainReply, ok, null, outside, held, not_held, bytes, unlocked, effect, made, given_up, checked, freed, written, read, is_owner, is_unlocked, max_size, max_data}
+use Rattle.trace_model.specs.Plain.{Action, acquire, release, malloc, free, poke, peek, refuse, other, PlainTrack}
+use Rattle.trace_model.specs.Spelling.{action_count}
+use Rattle.event_model.specs.Effects.{State, PlainReply, ok, held, not_held, effect, is_owner}
 use Rattle.event_model.specs.Events.{event, event_of, settled, advanced, is_fault, next_action, may_do, ops_left, left_in}
-use Rattle.event_model.specs.History.{opening, state_after, last_state, IsNext}
+use Rattle.event_model.specs.History.{opening, state_after, last_state, IsNext, IsLegalFrom, IsLegal}
 use Rattle.event_model.proofs.HistoryLaws.{state_push}
 
 -- ---- what an operation leaves as it was
@@ -19,47 +18,6 @@ use Rattle.event_model.proofs.HistoryLaws.{state_push}
 pub record Keeps (s : State) (r : State × PlainReply) : Type 0 where
   pub done : r.0.done ≡ s.done
   pub faulted : r.0.faulted ≡ s.faulted
-
-made_keeps : (s : State) (v : Letter) (name : Name) (n : ℕ) (locked : Bool) (o : Option Body) → Keeps s (made s v name n locked o)
-made_keeps s v name n locked (Some block) = record { done = refl; faulted = refl }
-made_keeps s v name n locked None = by (nat_lt max_size n) (is_unlocked v locked) (nat_lt max_data n)
-  where
-    by : (great bare greater : Bool) → Keeps s (cond great (s, null) (cond bare (s, unlocked) (cond greater (s, null) (record s { blocks = put s.blocks name (fresh v n new_byte) }, ok))))
-    by true bare greater = record { done = refl; faulted = refl }
-    by false true greater = record { done = refl; faulted = refl }
-    by false false true = record { done = refl; faulted = refl }
-    by false false false = record { done = refl; faulted = refl }
-
-given_keeps : (s : State) (name : Name) (block : Body) (found : Option Fault) → Keeps s (given_up s name block found)
-given_keeps s name block None = record { done = refl; faulted = refl }
-given_keeps s name block (Some found) = record { done = refl; faulted = refl }
-
-checked_keeps : (s : State) (v : Letter) (name : Name) (o : Option Body) → Keeps s (checked s v name o)
-checked_keeps s v name None = record { done = refl; faulted = refl }
-checked_keeps s v name (Some block) = given_keeps s name block (finding_in v block)
-
-freed_keeps : (s : State) (v : Letter) (name : Name) (locked : Bool) (o : Option Body) → Keeps s (freed s v name locked o)
-freed_keeps s v name locked o = by (is_unlocked v locked)
-  where
-    by : (b : Bool) → Keeps s (cond b (s, unlocked) (checked s v name o))
-    by true = record { done = refl; faulted = refl }
-    by false = checked_keeps s v name o
-
-written_keeps : (s : State) (name : Name) (offset : ℤ) (new : List ℕ) (o : Option Body) → Keeps s (written s name offset new o)
-written_keeps s name offset new None = record { done = refl; faulted = refl }
-written_keeps s name offset new (Some block) = by (reaches block offset (length new))
-  where
-    by : (b : Bool) → Keeps s (cond b (record s { blocks = put s.blocks name (poked block offset new) }, ok) (s, outside))
-    by true = record { done = refl; faulted = refl }
-    by false = record { done = refl; faulted = refl }
-
-read_keeps : (s : State) (offset : ℤ) (count : ℕ) (o : Option Body) → Keeps s (read s offset count o)
-read_keeps s offset count None = record { done = refl; faulted = refl }
-read_keeps s offset count (Some block) = by (reaches block offset count)
-  where
-    by : (b : Bool) → Keeps s (cond b (s, bytes (peeked block offset count)) (s, outside))
-    by true = record { done = refl; faulted = refl }
-    by false = record { done = refl; faulted = refl }
 
 lock_keeps : (s : State) (b : Bool) (owner : Option ℕ) → Keeps s (cond b (s, held) (record s { owner = owner }, ok))
 lock_keeps s true owner = record { done = refl; faulted = refl }
@@ -69,14 +27,15 @@ unlock_keeps : (s : State) (b : Bool) (owner : Option ℕ) → Keeps s (cond b (
 unlock_keeps s true owner = record { done = refl; faulted = refl }
 unlock_keeps s false owner = record { done = refl; faulted = refl }
 
-pub effect_keeps : (s : State) (t : ℕ) (a : Action) → Keeps s (effect s t a)
-effect_keeps s t acquire = lock_keeps s (is_owner s.owner t) (Some t)
-effect_keeps s t release = unlock_keeps s (is_owner s.owner t) None
-effect_keeps s t (malloc v name n) = made_keeps s v name n (is_owner s.owner t) (find s.blocks name)
-effect_keeps s t (free v name) = freed_keeps s v name (is_owner s.owner t) (find s.blocks name)
-effect_keeps s t (poke name offset new) = written_keeps s name offset new (find s.blocks name)
-effect_keeps s t (peek name offset count) = read_keeps s offset count (find s.blocks name)
-effect_keeps s t other = record { done = refl; faulted = refl }
+pub effect_keeps : (s : State) (t : ℕ) (a : Action) (raw : Ask) → Keeps s (effect s t a raw)
+effect_keeps s t acquire raw = lock_keeps s (is_owner s.owner t) (Some t)
+effect_keeps s t release raw = unlock_keeps s (is_owner s.owner t) None
+effect_keeps s t (malloc v name n) raw = record { done = refl; faulted = refl }
+effect_keeps s t (free v name) raw = record { done = refl; faulted = refl }
+effect_keeps s t (poke name offset new) raw = record { done = refl; faulted = refl }
+effect_keeps s t (peek name offset count) raw = record { done = refl; faulted = refl }
+effect_keeps s t (refuse side k) raw = record { done = refl; faulted = refl }
+effect_keeps s t other raw = record { done = refl; faulted = refl }
 
 -- ---- as many tracks as there were
 
@@ -94,9 +53,9 @@ event_length : (tracks : List PlainTrack) (s : State) (e : Entry) → length (ev
 unfolding event
 event_length tracks s e = by (next_action tracks s e.track)
   where
-    by : (o : Option Action) → length (event_of tracks s e.track o).0.done ≡ length s.done
+    by : (o : Option Action) → length (event_of tracks s e.track e.raw o).0.done ≡ length s.done
     by None = refl
-    by (Some a) = settled_length tracks e.track (effect s e.track a) ∙ ap length (effect_keeps s e.track a).done
+    by (Some a) = settled_length tracks e.track (effect s e.track a e.raw) ∙ ap length (effect_keeps s e.track a e.raw).done
 
 after_length : (tracks : List PlainTrack) (s : State) (es : List Entry) → length (state_after tracks s es).done ≡ length s.done
 after_length tracks s [] = refl
@@ -124,7 +83,7 @@ ops_less (x ∷ ts) (d ∷ ds) zero track is lt some =
     omega (arith, len, some)
 ops_less (x ∷ ts) (d ∷ ds) (suc t) track is lt some = omega (arith, ops_less ts ds t track is (omega arith) some)
 
-waits : (owner : Option ℕ) (t : ℕ) (o : Option Action) → may_do owner t o ≡ true → (a : Action) × (o ≡ Some a)
+pub waits : (owner : Option ℕ) (t : ℕ) (o : Option Action) → may_do owner t o ≡ true → (a : Action) × (o ≡ Some a)
 waits owner t None h = absurd (true≢false (sym h))
 waits owner t (Some a) h = (a, refl)
 
@@ -137,11 +96,11 @@ abbrev weight : Bool → ℕ
 weight b = cond b 0 1
 
 -- what is left where one operation is done, or a fault comes
-less : (tracks : List PlainTrack) (s : State) (t : ℕ) (a : Action) → s.faulted ≡ false → length s.done ≡ length tracks → next_action tracks s t ≡ Some a
-    → left_in tracks (settled tracks t (effect s t a)).0 < left_in tracks s
-less tracks s t a sound same is =
-    let r = effect s t a in
-    let keeps = effect_keeps s t a in
+less : (tracks : List PlainTrack) (s : State) (t : ℕ) (a : Action) (raw : Ask) → s.faulted ≡ false → length s.done ≡ length tracks → next_action tracks s t ≡ Some a
+    → left_in tracks (settled tracks t (effect s t a raw)).0 < left_in tracks s
+less tracks s t a raw sound same is =
+    let r = effect s t a raw in
+    let keeps = effect_keeps s t a raw in
     let there = at_track (slice_get tracks t) (slice_index s.done t) a is in
     let within : t < length s.done = omega (arith, same, slice_get_within tracks t there.0 there.1) in
     let some : slice_index s.done t < length there.0.actions = slice_get_within there.0.actions (slice_index s.done t) a there.2 in
@@ -159,11 +118,27 @@ less tracks s t a sound same is =
     by r true before unfaulted done_is later fewer = omega (arith, before, done_is)
     by r false before unfaulted done_is later fewer = omega (arith, before, unfaulted, later, fewer)
 
-pub leaves_less : (tracks : List PlainTrack) (es : List Entry) (e : Entry) → IsNext tracks (last_state tracks es) e → left_in tracks (last_state tracks (es ++ e ∷ [])) < left_in tracks (last_state tracks es)
+next_less : (tracks : List PlainTrack) (s : State) (e : Entry) → length s.done ≡ length tracks → IsNext tracks s e → left_in tracks (event tracks s e).0 < left_in tracks s
 unfolding event
-leaves_less tracks es e next =
-    let s = last_state tracks es in
+next_less tracks s e same next =
     let w = waits s.owner e.track (next_action tracks s e.track) next.ready in
-    let then_is : last_state tracks (es ++ e ∷ []) ≡ (settled tracks e.track (effect s e.track w.0)).0 =
-    state_push tracks (opening tracks) es e ∙ ap (λ (o : Option Action). (event_of tracks s e.track o).0) w.1 in
-    subst (λ (x : State). left_in tracks x < left_in tracks s) (sym then_is) (less tracks s e.track w.0 next.no_fault (done_length tracks es) w.1)
+    let then_is : (event tracks s e).0 ≡ (settled tracks e.track (effect s e.track w.0 e.raw)).0 = ap (λ (o : Option Action). (event_of tracks s e.track e.raw o).0) w.1 in
+    subst (λ (x : State). left_in tracks x < left_in tracks s) (sym then_is) (less tracks s e.track w.0 e.raw next.no_fault same w.1)
+
+pub leaves_less : (tracks : List PlainTrack) (es : List Entry) (e : Entry) → IsNext tracks (last_state tracks es) e → left_in tracks (last_state tracks (es ++ e ∷ [])) < left_in tracks (last_state tracks es)
+leaves_less tracks es e next =
+    subst (λ (x : State). left_in tracks x < left_in tracks (last_state tracks es)) (sym (state_push tracks (opening tracks) es e)) (next_less tracks (last_state tracks es) e (done_length tracks es) next)
+
+-- ---- a history is no longer than there are operations, but for a fault
+
+short_from : (tracks : List PlainTrack) (s : State) (es : List Entry) → length s.done ≡ length tracks → IsLegalFrom tracks s es → length es ≤ left_in tracks s
+short_from tracks s [] same legal = omega arith
+short_from tracks s (e ∷ es) same legal =
+    omega (arith, next_less tracks s e same legal.0, short_from tracks (event tracks s e).0 es (event_length tracks s e ∙ same) legal.1)
+
+all_left : (tracks : List PlainTrack) → ops_left tracks (none_done tracks) ≡ action_count tracks
+all_left [] = refl
+all_left (t ∷ ts) = omega (arith, all_left ts, sum_by-cons (λ (x : PlainTrack). length x.actions) t ts)
+
+pub legal_short : (tracks : List PlainTrack) (es : List Entry) → IsLegal tracks es → length es ≤ action_count tracks + 1
+legal_short tracks es legal = omega (arith, short_from tracks (opening tracks) es (map_length tracks) legal, all_left tracks)

@@ -1,3 +1,5 @@
 pub mod FaultLaws
 pub mod HistoryLaws
 pub mod LeftLaws
+pub mod NullLaws
+pub mod RequestLaws

@@ -22,6 +22,11 @@ abbrev pub drop_name : Blocks → Name → Blocks
 drop_name [] name = []
 drop_name (b ∷ bs) name = if bytes_eq b.0 name then drop_name bs name else b ∷ drop_name bs name
 
+-- the blocks, where the name holds this
+abbrev pub hold : Blocks → Name → Option Body → Blocks
+hold bs name None = drop_name bs name
+hold bs name (Some block) = put bs name block
+
 -- how many bytes of data the blocks have together
 abbrev pub total_size : Blocks → ℕ
 total_size bs = sum_by (λ b. size_of b.1) bs

@@ -2,12 +2,14 @@
 use Rattle.std.specs.Prelude.{ℕ, ◌-◌, ◌^◌, ℤ, Bool, true, false, not, ◌&&◌, nat_lt, ◌==◌, if◌then◌else◌, List, length, Option, Some, None}
 use Rattle.mem_base.specs.declared.trace.Letter.{Letter}
 use Rattle.mem_base.specs.declared.trace.Letter.TheVariants.{Raw, Mem, Obj}
+use Rattle.mem_base.specs.declared.history.Ask.{Ask}
+use Rattle.mem_base.specs.declared.history.Ask.TheVariants.{NotAsked, Refused, Granted}
 use Rattle.mem_base.specs.declared.reply.Fault.{Fault}
 use Rattle.mem_base.specs.declared.reply.Fault.TheVariants.{Unlocked}
 use Rattle.mem_base.specs.declared.reply.BlockReport.{BlockReport}
-use Rattle.trace_model.specs.Plain.{Name, Action, acquire, release, malloc, free, poke, peek, other}
+use Rattle.trace_model.specs.Plain.{Name, Action, acquire, release, malloc, free, poke, peek, refuse, other}
 use Rattle.block_model.specs.Block.{Body, new_byte, fresh, finding_in, report_of, reaches, peeked, poked}
-use Rattle.event_model.specs.Blocks.{Blocks, find, put, drop_name}
+use Rattle.event_model.specs.Blocks.{Blocks, find, hold}
 
 -- what an operation answers
 pub data PlainReply : Type 0 where
@@ -39,7 +41,10 @@ abbrev pub is_owner : Option ℕ → ℕ → Bool
 is_owner None t = false
 is_owner (Some u) t = u == t
 
--- ---- memory
+-- ---- memory: what a name holds after an operation on it, and what the operation answers
+
+abbrev pub Turn : Type 0
+Turn = Option Body × PlainReply
 
 -- the greatest size of a request
 abbrev pub max_size : ℕ
@@ -61,49 +66,71 @@ is_unlocked v locked = needs_lock v && not locked
 abbrev pub unlocked : PlainReply
 unlocked = fault Unlocked None
 
--- malloc of n bytes into a name that holds this: a block, a size that is too great, the lock, the hooks' bytes
-abbrev pub made : State → Letter → Name → ℕ → Bool → Option Body → State × PlainReply
-made s v name n locked (Some block) = (s, busy)
-made s v name n locked None =
-    if nat_lt max_size n then (s, null)
-    else if is_unlocked v locked then (s, unlocked)
-    else if nat_lt max_data n then (s, null)
-    else (record s { blocks = put s.blocks name (fresh v n new_byte) }, ok)
+-- what a request for a new block comes to, before any source is asked
+pub data Decision : Type 0 where
+  too_great : Decision
+  lacks_lock : Decision
+  -- a source is asked
+  asks : Decision
 
--- free of a name that holds this block, where the check of the block finds this
-abbrev pub given_up : State → Name → Body → Option Fault → State × PlainReply
-given_up s name block None = (record s { blocks = drop_name s.blocks name }, ok)
-given_up s name block (Some found) = (s, fault found (Some (report_of block)))
+-- for n bytes: a size that is too great, the lock, a size that leaves no room for the hooks' bytes
+abbrev pub decision : Letter → ℕ → Bool → Decision
+decision v n locked =
+    if nat_lt max_size n then too_great
+    else if is_unlocked v locked then lacks_lock
+    else if nat_lt max_data n then too_great
+    else asks
+
+-- a new block of n bytes, where the raw source gave this answer
+abbrev pub decided : Letter → ℕ → Ask → Decision → Turn
+decided v n raw too_great = (None, null)
+decided v n raw lacks_lock = (None, unlocked)
+decided v n NotAsked asks = (None, null)
+decided v n Refused asks = (None, null)
+decided v n Granted asks = (Some (fresh v n new_byte), ok)
+
+-- malloc of n bytes into a name that holds this
+abbrev pub made : Letter → ℕ → Bool → Ask → Option Body → Turn
+made v n locked raw (Some block) = (Some block, busy)
+made v n locked raw None = decided v n raw (decision v n locked)
+
+-- free of this block, where the check of it finds this
+abbrev pub given_up : Body → Option Fault → Turn
+given_up block None = (None, ok)
+given_up block (Some found) = (Some block, fault found (Some (report_of block)))
 
 -- free of a name that holds this, by a call that has the lock where it needs it
-abbrev pub checked : State → Letter → Name → Option Body → State × PlainReply
-checked s v name None = (s, ok)
-checked s v name (Some block) = given_up s name block (finding_in v block)
+abbrev pub checked : Letter → Option Body → Turn
+checked v None = (None, ok)
+checked v (Some block) = given_up block (finding_in v block)
 
 -- free of a name that holds this
-abbrev pub freed : State → Letter → Name → Bool → Option Body → State × PlainReply
-freed s v name locked now = if is_unlocked v locked then (s, unlocked) else checked s v name now
+abbrev pub freed : Letter → Bool → Option Body → Turn
+freed v locked now = if is_unlocked v locked then (now, unlocked) else checked v now
 
 -- poke of a name that holds this
-abbrev pub written : State → Name → ℤ → List ℕ → Option Body → State × PlainReply
-written s name offset new None = (s, absent)
-written s name offset new (Some block) =
-    if reaches block offset (length new) then (record s { blocks = put s.blocks name (poked block offset new) }, ok)
-    else (s, outside)
+abbrev pub written : ℤ → List ℕ → Option Body → Turn
+written offset new None = (None, absent)
+written offset new (Some block) = if reaches block offset (length new) then (Some (poked block offset new), ok) else (Some block, outside)
 
 -- peek of a name that holds this
-abbrev pub read : State → ℤ → ℕ → Option Body → State × PlainReply
-read s offset count None = (s, absent)
-read s offset count (Some block) =
-    if reaches block offset count then (s, bytes (peeked block offset count))
-    else (s, outside)
+abbrev pub read : ℤ → ℕ → Option Body → Turn
+read offset count None = (None, absent)
+read offset count (Some block) = if reaches block offset count then (Some block, bytes (peeked block offset count)) else (Some block, outside)
 
--- what an operation of track t does and answers
-abbrev pub effect : State → ℕ → Action → State × PlainReply
-effect s t acquire = if is_owner s.owner t then (s, held) else (record s { owner = Some t }, ok)
-effect s t release = if is_owner s.owner t then (record s { owner = None }, ok) else (s, not_held)
-effect s t (malloc v name n) = made s v name n (is_owner s.owner t) (find s.blocks name)
-effect s t (free v name) = freed s v name (is_owner s.owner t) (find s.blocks name)
-effect s t (poke name offset new) = written s name offset new (find s.blocks name)
-effect s t (peek name offset count) = read s offset count (find s.blocks name)
-effect s t other = (s, unsaid)
+-- ---- an operation
+
+-- an operation on what a name holds
+abbrev pub on_block : State → Name → (Option Body → Turn) → State × PlainReply
+on_block s name f = let turn = f (find s.blocks name) in (record s { blocks = hold s.blocks name turn.0 }, turn.1)
+
+-- what an operation of track t does and answers, where the raw source gave this answer
+abbrev pub effect : State → ℕ → Action → Ask → State × PlainReply
+effect s t acquire raw = if is_owner s.owner t then (s, held) else (record s { owner = Some t }, ok)
+effect s t release raw = if is_owner s.owner t then (record s { owner = None }, ok) else (s, not_held)
+effect s t (malloc v name n) raw = on_block s name (made v n (is_owner s.owner t) raw)
+effect s t (free v name) raw = on_block s name (freed v (is_owner s.owner t))
+effect s t (poke name offset new) raw = on_block s name (written offset new)
+effect s t (peek name offset count) raw = on_block s name (read offset count)
+effect s t (refuse side k) raw = (s, ok)
+effect s t other raw = (s, unsaid)

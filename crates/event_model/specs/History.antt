@@ -2,13 +2,13 @@
 use Rattle.std.specs.Prelude.{◌≡◌, ◌⊎◌, ℕ, true, false, List, [], ◌∷◌, ◌++◌, map, length, slice_index, None}
 use Rattle.mem_base.specs.declared.history.Entry.{Entry}
 use Rattle.mem_base.specs.declared.history.Grant.TheVariants as grant
-use Rattle.mem_base.specs.declared.history.Ask.TheVariants as ask
 use Rattle.mem_base.specs.declared.reply.Totals.{Totals}
 use Rattle.mem_base.specs.declared.reply.Counts.{Counts}
 use Rattle.trace_model.specs.Plain.{PlainTrack}
 use Rattle.event_model.specs.Blocks.{total_size}
 use Rattle.event_model.specs.Effects.{State}
-use Rattle.event_model.specs.Events.{is_ready, event, is_fault}
+use Rattle.event_model.specs.Events.{is_ready, next_action, event, is_fault}
+use Rattle.event_model.specs.Requests.{next_asks, was_asked}
 
 -- nothing is held, and nothing is done
 abbrev pub opening : List PlainTrack → State
@@ -24,13 +24,13 @@ abbrev pub last_state : List PlainTrack → List Entry → State
 last_state tracks es = state_after tracks (opening tracks) es
 
 -- the entry may come next: no fault has come, its track is ready, it is at the operation that comes next,
--- and its answers fit, since no operation asks a source yet
+-- and its answers fit: no operation asks for an arena yet, and the raw source answers exactly where it is asked
 pub record IsNext (tracks : List PlainTrack) (s : State) (e : Entry) : Type 0 where
   pub no_fault : s.faulted ≡ false
   pub ready : is_ready tracks s e.track ≡ true
   pub at : e.at ≡ slice_index s.done e.track
   pub arena : e.arena ≡ grant.NotAsked
-  pub raw : e.raw ≡ ask.NotAsked
+  pub raw : was_asked e.raw ≡ next_asks s e.track (next_action tracks s e.track)
 
 abbrev pub IsLegalFrom : List PlainTrack → State → List Entry → Type 0
 IsLegalFrom tracks s [] = Unit {0}

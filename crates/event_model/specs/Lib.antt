@@ -3,3 +3,5 @@ pub mod Effects
 pub mod Events
 pub mod History
 pub mod Laws
+pub mod Plans
+pub mod Requests

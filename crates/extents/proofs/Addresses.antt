@@ -1,9 +1,9 @@
 -- Which addresses extents and windows have.
 use Rattle.std.proofs.Common.{◌≡◌, ℕ, ◌+◌, ◌<◌, ◌≤◌, ◌⊎◌, ◌≢◌, inl, inr, List, refl, subst, arith}
 use Rattle.std.proofs.lemmas.Bool.Decides.{leb_tells, eqb_tells}
-use Rattle.extents.specs.Sums.{Has, Inserted, Removed, AllIn}
+use Rattle.extents.specs.Sums.{tally, Has, Inserted, Removed, AllIn}
 use Rattle.extents.specs.Extent.{Extent, Window, covers, begins, spans, AreApart, MeetsNone, Apart, LiesIn, AreDisjoint}
-use Rattle.extents.proofs.Lists.{tally_inserted, tally_has, tally_zero, has_more, has_kept}
+use Rattle.extents.proofs.Lists.{tally_inserted, tally_has, tally_le, tally_zero, has_more, has_kept}
 
 -- ---- one extent
 
@@ -90,6 +90,22 @@ all_in_fewer e part less_part all less some apart i j among d h = elim (has_more
   | inl same ↦ absurd (gone e part less_part some apart i (subst (λ y. Has y less_part) same h))
   | inr there ↦ there
 ]
+
+-- ---- where extents begin
+
+-- an extent with a byte has the address where it begins
+pub begins_covers : (x : ℕ) (e : Extent) → 1 ≤ e.len → begins x e ≤ covers x e
+begins_covers x e some = elim (begins_tells x e) [ inl p ↦ let one = covers_in x e (omega arith) (omega arith) in omega arith | inr p ↦ omega arith ]
+
+-- so no two that are apart begin at one address
+pub begins_once : (es : List Extent) → ((d : Extent) → Has d es → 1 ≤ d.len) → AreApart es → (x : ℕ) → tally (begins x) es ≤ 1
+begins_once es some apart x = let one = apart x in let le = tally_le (begins x) (covers x) es (λ d h. begins_covers x d (some d h)) in omega arith
+
+-- and none begins where one does that meets none of them
+pub meets_begins : (e : Extent) (es : List Extent) → ((d : Extent) → Has d es → 1 ≤ d.len) → 1 ≤ e.len → MeetsNone e es → tally (begins e.place) es ≡ 0
+meets_begins e es others some meets =
+    let none = meets e.place (covers_in e.place e (omega arith) (omega arith)) in
+    let le = tally_le (begins e.place) (covers e.place) es (λ d h. begins_covers e.place d (others d h)) in omega arith
 
 -- ---- windows
 

@@ -1,23 +1,22 @@
--- A change by number is the change by name.
-use Rattle.std.proofs.Common.{◌≡◌, ℕ, zero, suc, ◌+◌, ◌<◌, ◌≤◌, Bool, true, false, cond, List, [], ◌∷◌, ◌++◌, length, get_or, slice_get, slice_set, set, Option, Some, None, refl, sym, ap, subst, ◌∙◌, arith, length-set, inl, inr, ◌⊎◌, true≢false}
+-- What is done by number is done by name.
+use Rattle.std.proofs.Common.{◌≡◌, ℕ, zero, suc, ◌+◌, ◌<◌, Bool, true, false, cond, List, [], ◌∷◌, length, get_or, slice_get, set, map, Option, Some, None, refl, sym, ap, subst, ◌∙◌, arith, length-set, inl, inr, true≢false}
 use Rattle.std.specs.Prelude.{unwrap_or, sum_by}
 use Rattle.std.specs.Str.{bytes_eq}
 use Rattle.std.proofs.lemmas.Bool.Decides.{eqb_tells}
 use Rattle.std.proofs.lemmas.List.Sums.{sum_by-cons}
 use Rattle.std.proofs.lemmas.Slice.Eq.{bytes_eq-Decides}
 use Rattle.std.specs.Option.{option_map}
-use Rattle.std.proofs.lemmas.Option.{slice_get_within, slice_get-map, slice_get-get_or}
+use Rattle.std.proofs.lemmas.List.{map-set, set-get_or}
+use Rattle.std.proofs.lemmas.Option.{slice_get-map, slice_get-get_or}
 use Rattle.mem_base.specs.Texts.{IsDistinct}
 use Rattle.mem_base.specs.declared.texts.TextId.{TextId}
 use Rattle.trace_model.specs.Plain.{Name, text_at}
-use Rattle.block_model.specs.Block.{Body, size_of, poked}
+use Rattle.block_model.specs.Block.{Body}
 use Rattle.debug_guard.specs.Guard.{Guard}
-use Rattle.event_model.specs.Blocks.{Blocks, find, put, drop_name, total_size}
-use Rattle.event_model.specs.Effects.{State}
-use Rattle.machine_core.specs.Slots.{Holds, bodies_of, body_in, count_in, size_in, AreDistinct}
-use Rattle.machine_core.specs.declared.change.Change.{Change}
-use Rattle.machine_core.specs.declared.change.Change.TheVariants as changes
-use Rattle.machine_core.specs.Change.{changed, CanMake, slots_after, block_at}
+use Rattle.event_model.specs.Blocks.{Blocks, find, put, drop_name, hold, total_size}
+use Rattle.event_model.specs.Effects.{State, Turn, PlainReply, on_block}
+use Rattle.machine_core.specs.Acts.{Does}
+use Rattle.machine_core.specs.Slots.{Holds, IsTurn, bodies_of, body_at, body_in, count_in, size_in, AreDistinct}
 
 same_name : (a b : Name) → bytes_eq a b ≡ true → a ≡ b
 same_name a b e = (bytes_eq-Decides a b).0 e
@@ -189,34 +188,58 @@ drop_holds texts slots bs name distinct holds lt =
     written_one texts slots bs (drop_name bs n) name None distinct holds lt (find-drop_same bs n) (λ other ne. find-drop_other bs n other ne)
     (drop_distinct bs n holds.distinct) (omega (arith, sum_drop count_in refl bs n holds.distinct, count_is bs, count_is (drop_name bs n))) (omega (arith, sum_drop size_in refl bs n holds.distinct))
 
--- a change by number is the change by name
-pub changed_holds : (texts : List Name) (slots : List (Option Body)) (s : State) (change : Change) → IsDistinct texts → Holds texts slots s.blocks → CanMake slots change
-    → Holds texts (slots_after slots change) (changed texts s change).blocks
-changed_holds texts slots s changes.Nothing distinct holds may = holds
-changed_holds texts slots s (changes.Put name block) distinct holds may = put_holds texts slots s.blocks name block.body distinct holds may
-changed_holds texts slots s (changes.Remove name) distinct holds may = drop_holds texts slots s.blocks name distinct holds may
-changed_holds texts slots s (changes.Write name offset new) distinct holds may =
-    let there = may.1 in
-    let lt = slice_get_within slots name.0 (Some there.0) there.1 in
-    let old : find s.blocks (text_at texts name) ≡ Some there.0 = found texts slots s.blocks name (Some there.0) holds lt there.1 in
-    let block : block_at slots name.0 ≡ unwrap_or (find s.blocks (text_at texts name)) [] =
-    ap (λ (o : Option (Option Body)). unwrap_or (unwrap_or o None) []) there.1 ∙ sym (ap (λ (o : Option Body). unwrap_or o []) old) in
-    subst (λ (b : Body). Holds texts (set slots name.0 (Some (poked b offset.now new.now))) (changed texts s (changes.Write name offset new)).blocks) (sym block)
-    (put_holds texts slots s.blocks name (poked (unwrap_or (find s.blocks (text_at texts name)) []) offset.now new.now) distinct holds lt)
-changed_holds texts slots s (changes.Lock owner) distinct holds may = holds
+-- what is held by number is held by name
+pub hold_holds : (texts : List Name) (slots : List (Option Body)) (bs : Blocks) (name : TextId) (o : Option Body) → IsDistinct texts → Holds texts slots bs → name.0 < length slots
+    → Holds texts (set slots name.0 o) (hold bs (text_at texts name) o)
+hold_holds texts slots bs name None distinct holds lt = drop_holds texts slots bs name distinct holds lt
+hold_holds texts slots bs name (Some block) distinct holds lt = put_holds texts slots bs name block distinct holds lt
 
-bodies_length : (slots : List (Option Guard)) → length (bodies_of slots) ≡ length slots
+pub bodies_length : (slots : List (Option Guard)) → length (bodies_of slots) ≡ length slots
 bodies_length [] = refl
 bodies_length (s ∷ ss) = ap suc (bodies_length ss)
 
--- a slot's block is the one with that number
-pub block_there : (slots : List (Option Guard)) (now : List (Option Body)) (i : ℕ) (slot : Option Guard) (block : Body) → bodies_of slots ≡ now → slot ≡ get_or slots i slot → slice_get now i ≡ Some (Some block) → body_in slot ≡ Some block
-block_there slots now i slot block is here there =
-    let lt : i < length slots = omega (arith, slice_get_within now i (Some block) there, ap length is, bodies_length slots) in
-    let at : slice_get slots i ≡ Some slot = slice_get-get_or slots i slot lt ∙ ap Some (sym here) in
-    let e : Some (body_in slot) ≡ Some (Some block) =
-    sym (ap (λ (l : List (Option Body)). slice_get l i) (sym is) ∙ slice_get-map body_in slots i ∙ ap (option_map body_in) at) ∙ there in
-    cc
+-- a name holds what its slot does
+pub name_holds : (texts : List Name) (slots : List (Option Guard)) (bs : Blocks) (name : TextId) → Holds texts (bodies_of slots) bs → name.0 < length slots
+    → find bs (text_at texts name) ≡ body_at slots name.0
+name_holds texts slots bs name holds lt =
+    found texts (bodies_of slots) bs name (body_at slots name.0) holds (omega (arith, lt, bodies_length slots))
+    (slice_get-map body_in slots name.0 ∙ ap (option_map body_in) (slice_get-get_or slots name.0 None lt))
 
-pub block_at_is : (now : List (Option Body)) (i : ℕ) (block : Body) → slice_get now i ≡ Some (Some block) → block_at now i ≡ block
-block_at_is now i block there = ap (λ (o : Option (Option Body)). unwrap_or (unwrap_or o None) []) there
+-- an operation on a slot is the operation on its name
+pub turn_does : (texts : List Name) (s : State) (old new : List (Option Guard)) (name : TextId) (f : Option Body → Turn) (owner : Option ℕ) (reply : PlainReply)
+    → IsDistinct texts → Holds texts (bodies_of old) s.blocks → s.owner ≡ owner → name.0 < length old → IsTurn name.0 f old new reply
+    → Does texts (on_block s (text_at texts name) f) (bodies_of new) owner reply
+turn_does texts s old new name f owner reply distinct holds owned lt turn =
+    let here : find s.blocks (text_at texts name) ≡ body_at old name.0 = name_holds texts old s.blocks name holds lt in
+    record {
+      blocks = subst (λ (o : Option Body). Holds texts (bodies_of new) (hold s.blocks (text_at texts name) (f o).0)) (sym here)
+          (subst (λ (slots : List (Option Body)). Holds texts slots (hold s.blocks (text_at texts name) (f (body_at old name.0)).0)) (sym turn.slot)
+          (hold_holds texts (bodies_of old) s.blocks name (f (body_at old name.0)).0 distinct holds (omega (arith, lt, bodies_length old))));
+      owner_is = sym owned;
+      answer = turn.answer ∙ ap (λ (o : Option Body). (f o).1) (sym here);
+    }
+
+-- an operation that leaves what a slot holds
+pub turn_stays : (slots : List (Option Guard)) (i : ℕ) (f : Option Body → Turn) (reply : PlainReply) → (f (body_at slots i)).0 ≡ body_at slots i → reply ≡ (f (body_at slots i)).1 → IsTurn i f slots slots reply
+turn_stays slots i f reply stays answer = record {
+  slot = sym (ap (set (bodies_of slots) i) stays ∙ sym (map-set body_in slots i (get_or slots i None)) ∙ ap (map body_in) (set-get_or slots i None));
+  answer = answer;
+}
+
+-- an operation that changes what a slot holds
+pub turn_sets : (slots : List (Option Guard)) (i : ℕ) (o : Option Guard) (f : Option Body → Turn) (reply : PlainReply) → body_in o ≡ (f (body_at slots i)).0 → reply ≡ (f (body_at slots i)).1
+    → IsTurn i f slots (set slots i o) reply
+turn_sets slots i o f reply is answer = record {
+  slot = map-set body_in slots i o ∙ ap (set (bodies_of slots) i) is;
+  answer = answer;
+}
+
+-- ---- an operation that is on no block
+
+pub lock_does : (texts : List Name) (s : State) (slots : List (Option Body)) (r : State × PlainReply) (owner : Option ℕ) (reply : PlainReply)
+    → Holds texts slots s.blocks → r.0.blocks ≡ s.blocks → owner ≡ r.0.owner → reply ≡ r.1 → Does texts r slots owner reply
+lock_does texts s slots r owner reply holds same owned answer = record {
+  blocks = subst (Holds texts slots) (sym same) holds;
+  owner_is = owned;
+  answer = answer;
+}

@@ -1,16 +1,18 @@
 -- One event more: the state, and that the history stays legal.
-use Rattle.std.proofs.Common.{◌≡◌, ℕ, zero, suc, ◌+◌, ◌-◌, ◌^◌, ◌<◌, ◌≤◌, Bool, true, false, cond, List, [], ◌∷◌, ◌++◌, length, get_or, slice_get, slice_set, set, map, Option, Some, None, refl, sym, ap, subst, ◌∙◌, arith, length-set, length-append, take, replicate}
-use Rattle.std.specs.Prelude.{unwrap_or, slice_index, IfSome, IfNone, sum_by}
+use Rattle.std.proofs.Common.{◌≡◌, ℕ, zero, suc, ◌+◌, ◌-◌, ◌<◌, ◌≤◌, Bool, true, false, cond, List, [], ◌∷◌, ◌++◌, length, get_or, slice_get, set, map, Option, Some, None, refl, sym, ap, subst, ◌∙◌, arith, length-set, length-append, take, replicate}
+use Rattle.std.specs.Prelude.{slice_index, IfSome, IfNone, IfOk, OnErr, Result, Ok, Err, sum_by}
 use Rattle.std.specs.Option.{option_map, option_and_then}
 use Rattle.std.proofs.lemmas.Option.{slice_get_within, slice_get-map, slice_get-get_or, slice_get_past}
 use Rattle.std.proofs.Math.Seq.{take-append_seam}
 use Rattle.std.proofs.lemmas.List.{length-replicate}
 use Rattle.std.proofs.lemmas.List.Sums.{sum_by-cons}
-use Rattle.mem_base.specs.Texts.{IsDistinct}
+use Rattle.mem_base.specs.Texts.{IsTable}
 use Rattle.mem_base.specs.declared.history.Entry.{Entry}
 use Rattle.mem_base.specs.declared.history.Grant.TheVariants as grant
-use Rattle.mem_base.specs.declared.history.Ask.TheVariants as ask
+use Rattle.mem_base.specs.declared.history.Ask.{Ask}
+use Rattle.mem_base.specs.declared.reply.Step.{Step}
 use Rattle.mem_base.specs.declared.trace.Op.{Op}
+use Rattle.mem_base.specs.declared.trace.Side.TheVariants as sides
 use Rattle.mem_base.specs.declared.trace.Trace.{Trace}
 use Rattle.mem_base.specs.declared.trace.Track.{Track}
 use Rattle.trace_model.specs.Known.{op_at, IsKnownTrace}
@@ -18,14 +20,20 @@ use Rattle.trace_model.specs.Plain.{Name, Action, PlainTrack, track_of, tracks_o
 use Rattle.block_model.specs.Block.{Body}
 use Rattle.event_model.specs.Effects.{State, PlainReply, effect}
 use Rattle.event_model.specs.Events.{event, event_of, settled, advanced, is_fault, let_go, action_after, next_action, may_do, is_ready}
-use Rattle.event_model.specs.History.{opening, state_after, last_state, IsNext, IsLegal}
+use Rattle.event_model.specs.History.{opening, last_state, IsNext}
+use Rattle.event_model.specs.Requests.{asks_raw, next_asks, was_asked}
 use Rattle.event_model.proofs.HistoryLaws.{state_push, legal_push}
-use Rattle.machine_core.specs.declared.change.Change.{Change}
-use Rattle.machine_core.specs.declared.change.Change.TheVariants as changes
-use Rattle.machine_core.specs.Change.{changed, CanMake, slots_after, owner_after}
-use Rattle.machine_core.specs.Slots.{Holds, count_in, size_in}
+use Rattle.event_model.proofs.LeftLaws.{effect_keeps}
+use Rattle.event_model.specs.Plans.{GrowsBy, lists}
+use Rattle.event_model.specs.Requests.{raw_asks, raw_refusals}
+use Rattle.extents.specs.Extent.{Extent}
+use Rattle.extents.specs.Sums.{AllIn}
+use Rattle.sources.specs.Source.{SourceView}
+use Rattle.sources.specs.Holder.{Answered}
+use Rattle.machine_core.specs.Acts.{Acts, Asks, Does, Fails}
+use Rattle.machine_core.specs.View.{Requests}
+use Rattle.machine_core.specs.Slots.{Holds, bodies_of, count_in, size_in}
 use Rattle.machine_core.specs.Stands.{Stands}
-use Rattle.machine_core.proofs.SlotLemmas.{changed_holds}
 
 -- the next action is the next operation, with its name written out
 pub action_is : (texts : List Name) (ts : List Track) (t at : ℕ) → action_after (tracks_of texts ts) t at ≡ option_map (action_of texts) (option_and_then (λ track. slice_get track.ops at) (slice_get ts t))
@@ -35,30 +43,9 @@ action_is texts ts t at = ap (option_and_then (λ track. slice_get track.actions
     by None = refl
     by (Some track) = slice_get-map (action_of texts) track.ops at
 
-changed_done : (texts : List Name) (s : State) (change : Change) → (changed texts s change).done ≡ s.done
-changed_done texts s changes.Nothing = refl
-changed_done texts s (changes.Put name block) = refl
-changed_done texts s (changes.Remove name) = refl
-changed_done texts s (changes.Write name offset new) = refl
-changed_done texts s (changes.Lock owner) = refl
-
-changed_owner : (texts : List Name) (s : State) (change : Change) → (changed texts s change).owner ≡ owner_after s.owner change
-changed_owner texts s changes.Nothing = refl
-changed_owner texts s (changes.Put name block) = refl
-changed_owner texts s (changes.Remove name) = refl
-changed_owner texts s (changes.Write name offset new) = refl
-changed_owner texts s (changes.Lock owner) = refl
-
 some_of : {A B : Type 0} (f : A → Option B) (o : Option A) (b : B) → option_and_then f o ≡ Some b → (a : A) × (o ≡ Some a)
 some_of f None b e = absurd cc
 some_of f (Some a) b e = (a, refl)
-
-changed_fault : (texts : List Name) (s : State) (change : Change) → (changed texts s change).faulted ≡ s.faulted
-changed_fault texts s changes.Nothing = refl
-changed_fault texts s (changes.Put name block) = refl
-changed_fault texts s (changes.Remove name) = refl
-changed_fault texts s (changes.Write name offset new) = refl
-changed_fault texts s (changes.Lock owner) = refl
 
 abbrev tracks : Trace → List PlainTrack
 tracks trace = (plain trace).tracks
@@ -113,8 +100,8 @@ module _ (ts : List PlainTrack) (t : ℕ) (s : State) (reply : PlainReply) where
   settled_fault : s.faulted ≡ false → after.faulted ≡ is_fault reply
   settled_fault sound = chosen_fault sound (is_fault reply)
 
--- what is known before an event: the operation, and what preparing it answered
-module _ (trace : Trace) (es : List Entry) (slots : List (Option Body)) (owner : Option ℕ) (done : List ℕ) (faulted : Bool) (t at : ℕ) (op : Op) (change : Change) (reply : PlainReply)
+-- what is known before an event: the operation that comes next
+module _ (trace : Trace) (es : List Entry) (slots : List (Option Body)) (owner : Option ℕ) (done : List ℕ) (faulted : Bool) (t at : ℕ) (op : Op)
     (stands : Stands trace es slots owner done faulted) (here : at ≡ get_or done t at) (is_op : op_at trace.tracks t at ≡ Some op) where
   abbrev now : State
   now = last_state (tracks trace) es
@@ -136,67 +123,81 @@ module _ (trace : Trace) (es : List Entry) (slots : List (Option Body)) (owner :
   pub next_is : next_action (tracks trace) now t ≡ Some (action_of trace.texts op)
   next_is = ap (action_after (tracks trace) t) (sym place_is) ∙ action_is trace.texts trace.tracks t at ∙ ap (option_map (action_of trace.texts)) is_op
 
-  module _ (does : effect now t (action_of trace.texts op) ≡ (changed trace.texts now change, reply)) (e : Entry) (its_track : e.track ≡ t) where
-    abbrev then : State
-    then = changed trace.texts now change
+  -- what the source was asked, by the entry
+  pub requests_are : (e : Entry) (raw : Ask) (held held_then : List Extent) (old new : SourceView ℕ) → e.track ≡ t → e.raw ≡ raw → Asks op raw held held_then old new
+      → Requests trace es e held held_then old new
+  requests_are e raw held held_then old new its_track its_raw asked = record {
+    answered = subst (λ (a : Ask). Answered (raw_asks a) (raw_refusals a) old new) (sym its_raw) asked.answered;
+    plan = subst (λ (u : ℕ). GrowsBy (lists sides.Raw old.asked (next_action (tracks trace) now u)) old.plan new.plan) (sym its_track)
+        (subst (λ (a : Option Action). GrowsBy (lists sides.Raw old.asked a) old.plan new.plan) (sym next_is) (asked.plan trace.texts));
+    traded = asked.traded;
+  }
 
-    pub event_is : event (tracks trace) now e ≡ settled (tracks trace) t (then, reply)
+  -- what the operation did, and the entry that is kept of it
+  module _ (e : Entry) (its_track : e.track ≡ t) (news : List (Option Body)) (owner_then : Option ℕ) (reply : PlainReply)
+      (acts : Acts t op slots news owner owner_then e.raw reply) where
+    abbrev turn : State × PlainReply
+    turn = effect now t (action_of trace.texts op) e.raw
+
+    abbrev then : State
+    then = turn.0
+
+    abbrev did : Does trace.texts turn news owner_then reply × (was_asked e.raw ≡ asks_raw now t (action_of trace.texts op))
+    did = acts trace.texts now stands.table.distinct stands.blocks_are (sym stands.owner_is)
+
+    pub event_is : event (tracks trace) now e ≡ settled (tracks trace) t turn
     unfolding event
     event_is =
-        ap (λ (u : ℕ). event_of (tracks trace) now u (next_action (tracks trace) now u)) its_track
-        ∙ ap (event_of (tracks trace) now t) next_is ∙ ap (settled (tracks trace) t) does
+        ap (λ (u : ℕ). event_of (tracks trace) now u e.raw (next_action (tracks trace) now u)) its_track
+        ∙ ap (event_of (tracks trace) now t e.raw) next_is
 
     pub reply_is : reply ≡ (event (tracks trace) now e).1
-    reply_is = sym (ap (λ (r : State × PlainReply). r.1) event_is ∙ settled_reply (tracks trace) t then reply)
+    reply_is = did.0.answer ∙ sym (ap (λ (r : State × PlainReply). r.1) event_is ∙ settled_reply (tracks trace) t then turn.1)
 
-    module _ (its_place : e.at ≡ at) (no_arena : e.arena ≡ grant.NotAsked) (no_raw : e.raw ≡ ask.NotAsked)
-        (ready : is_ready (tracks trace) now t ≡ true) (sound : faulted ≡ false) where
+    module _ (its_place : e.at ≡ at) (no_arena : e.arena ≡ grant.NotAsked) (ready : is_ready (tracks trace) now t ≡ true) (sound : faulted ≡ false) where
       pub is_next : IsNext (tracks trace) now e
       is_next = record {
         no_fault = sym stands.fault_is ∙ sound;
         ready = ap (is_ready (tracks trace) now) its_track ∙ ready;
         at = its_place ∙ place_is ∙ ap (slice_index now.done) (sym its_track);
         arena = no_arena;
-        raw = no_raw;
+        raw = did.1 ∙ sym (ap (next_asks now t) next_is) ∙ ap (λ (u : ℕ). next_asks now u (next_action (tracks trace) now u)) (sym its_track);
       }
 
-      module _ (may : CanMake slots change) (news : List (Option Body)) (stored : news ≡ slots_after slots change)
-          (owner' : Option ℕ) (owned : owner' ≡ cond (is_fault reply) (owner_after owner change) (let_go (tracks trace) t (slice_index done t + 1) (owner_after owner change)))
-          (done' : List ℕ) (did : done' ≡ cond (is_fault reply) done (set done t (slice_index done t + 1)))
+      module _ (owner' : Option ℕ) (owned : owner' ≡ cond (is_fault reply) owner_then (let_go (tracks trace) t (slice_index done t + 1) owner_then))
+          (done' : List ℕ) (did_one : done' ≡ cond (is_fault reply) done (set done t (slice_index done t + 1)))
           (faulted' : Bool) (fell : faulted' ≡ is_fault reply) where
-        then_is : last_state (tracks trace) (es ++ e ∷ []) ≡ (settled (tracks trace) t (then, reply)).0
+        then_is : last_state (tracks trace) (es ++ e ∷ []) ≡ (settled (tracks trace) t turn).0
         then_is = state_push (tracks trace) (opening (tracks trace)) es e ∙ ap (λ (r : State × PlainReply). r.0) event_is
 
         then_done : then.done ≡ done
-        then_done = changed_done trace.texts now change ∙ sym stands.done_is
-
-        then_owner : then.owner ≡ owner_after owner change
-        then_owner = changed_owner trace.texts now change ∙ ap (λ (o : Option ℕ). owner_after o change) (sym stands.owner_is)
+        then_done = (effect_keeps now t (action_of trace.texts op) e.raw).done ∙ sym stands.done_is
 
         length_kept : (b : Bool) (n : ℕ) → length (cond b done (set done t n)) ≡ length done
         length_kept true n = refl
         length_kept false n = length-set done t n
 
+        answer : reply ≡ turn.1
+        answer = did.0.answer
+
         pub stands_then : Stands trace (es ++ e ∷ []) news owner' done' faulted'
         stands_then = record {
           legal = legal_push (tracks trace) (opening (tracks trace)) es e stands.legal is_next;
-          distinct = stands.distinct;
+          table = stands.table;
           known = stands.known;
-          tracks = ap length did ∙ length_kept (is_fault reply) (slice_index done t + 1) ∙ stands.tracks;
+          tracks = ap length did_one ∙ length_kept (is_fault reply) (slice_index done t + 1) ∙ stands.tracks;
           blocks_are = subst (λ (st : State). Holds trace.texts news st.blocks) (sym then_is)
-              (subst (Holds trace.texts news) (sym (settled_blocks (tracks trace) t then reply))
-              (subst (λ (l : List (Option Body)). Holds trace.texts l then.blocks) (sym stored)
-              (changed_holds trace.texts slots now change stands.distinct stands.blocks_are may)));
+              (subst (Holds trace.texts news) (sym (settled_blocks (tracks trace) t then turn.1)) did.0.blocks);
           owner_is = owned
-              ∙ sym (λ i. cond (is_fault reply) (then_owner i) (let_go (tracks trace) t (slice_index (then_done i) t + 1) (then_owner i)))
-              ∙ sym (settled_owner (tracks trace) t then reply)
+              ∙ (λ i. cond (is_fault (answer i)) (did.0.owner_is i) (let_go (tracks trace) t (slice_index (sym then_done i) t + 1) (did.0.owner_is i)))
+              ∙ sym (settled_owner (tracks trace) t then turn.1)
               ∙ ap (λ (st : State). st.owner) (sym then_is);
-          done_is = did
-              ∙ sym (λ i. cond (is_fault reply) (then_done i) (set (then_done i) t (slice_index (then_done i) t + 1)))
-              ∙ sym (settled_done (tracks trace) t then reply)
+          done_is = did_one
+              ∙ (λ i. cond (is_fault (answer i)) (sym then_done i) (set (sym then_done i) t (slice_index (sym then_done i) t + 1)))
+              ∙ sym (settled_done (tracks trace) t then turn.1)
               ∙ ap (λ (st : State). st.done) (sym then_is);
-          fault_is = fell
-              ∙ sym (settled_fault (tracks trace) t then reply (changed_fault trace.texts now change ∙ sym stands.fault_is ∙ sound))
+          fault_is = fell ∙ ap is_fault answer
+              ∙ sym (settled_fault (tracks trace) t then turn.1 ((effect_keeps now t (action_of trace.texts op) e.raw).faulted ∙ sym stands.fault_is ∙ sound))
               ∙ ap (λ (st : State). st.faulted) (sym then_is);
         }
 
@@ -208,6 +209,11 @@ none_at zero i lt = absurd (omega arith)
 none_at (suc n) zero lt = refl
 none_at (suc n) (suc i) lt = none_at n i (omega arith)
 
+-- no block at any number, as bodies
+pub bodies_none : (n : ℕ) → bodies_of (replicate n None) ≡ replicate n none_held
+bodies_none zero = refl
+bodies_none (suc n) = ap (λ (l : List (Option Body)). None ∷ l) (bodies_none n)
+
 zeros_are : (texts : List Name) (ts : List Track) → replicate {A = ℕ} (length ts) 0 ≡ map (λ (t : PlainTrack). 0) (tracks_of texts ts)
 zeros_are texts [] = refl
 zeros_are texts (t ∷ ts) = ap (λ (l : List ℕ). 0 ∷ l) (zeros_are texts ts)
@@ -217,12 +223,12 @@ no_sum f none zero = refl
 no_sum f none (suc n) = omega (arith, none, no_sum f none n, sum_by-cons f none_held (replicate n none_held))
 
 -- a machine at the start
-pub opening_stands : (trace : Trace) (es : List Entry) (slots : List (Option Body)) (done : List ℕ) → IsDistinct trace.texts → IsKnownTrace trace → es ≡ [] → slots ≡ replicate (length trace.texts) None → done ≡ replicate {A = ℕ} (length trace.tracks) 0
+pub opening_stands : (trace : Trace) (es : List Entry) (slots : List (Option Body)) (done : List ℕ) → IsTable trace.texts → IsKnownTrace trace → es ≡ [] → slots ≡ replicate (length trace.texts) None → done ≡ replicate {A = ℕ} (length trace.tracks) 0
     → Stands trace es slots None done false
-opening_stands trace es slots done distinct known empty empty_slots zeros =
+opening_stands trace es slots done table known empty empty_slots zeros =
     subst (λ (x : List Entry). Stands trace x slots None done false) (sym empty) (record {
       legal = tt;
-      distinct = distinct;
+      table = table;
       known = known;
       tracks = ap length zeros ∙ length-replicate (length trace.tracks) 0;
       blocks_are = record {
@@ -261,3 +267,19 @@ pub undone : {A : Type 0} (xs ys zs : List A) (x : A) → ys ≡ xs ++ x ∷ [] 
 undone xs ys zs x pushed popped =
     let shorter : length (xs ++ x ∷ []) - 1 ≡ length xs = omega (arith, length-append xs (x ∷ [])) in
     popped ∙ ap (λ (l : List _). take (length l - 1) l) pushed ∙ ap (λ (n : ℕ). take n (xs ++ x ∷ [])) shorter ∙ take-append_seam xs (x ∷ [])
+
+set_last : {A : Type 0} (xs : List A) (x y : A) → set (xs ++ x ∷ []) (length xs) y ≡ xs ++ y ∷ []
+set_last [] x y = refl
+set_last (z ∷ zs) x y = ap (λ (l : List _). z ∷ l) (set_last zs x y)
+
+-- another element in the place of what was just added
+pub redone : {A : Type 0} (xs ys zs : List A) (x y : A) → ys ≡ xs ++ x ∷ [] → zs ≡ set ys (length ys - 1) y → zs ≡ xs ++ y ∷ []
+redone xs ys zs x y pushed put =
+    let shorter : length (xs ++ x ∷ []) - 1 ≡ length xs = omega (arith, length-append xs (x ∷ [])) in
+    put ∙ ap (λ (l : List _). set l (length l - 1) y) pushed ∙ ap (λ (n : ℕ). set (xs ++ x ∷ []) n y) shorter ∙ set_last xs x y
+
+-- all that a machine holds is out, whether the step was done or not
+pub held_after : {E : Type 0} (r : Result Step E) (trace : Trace) (es : List Entry) (held held_then : List Extent) (old new : SourceView ℕ)
+    → IfOk r (λ s. Requests trace es s.entry held held_then old new) → OnErr r (Fails held old new) → OnErr r (held_then ≡ held) → AllIn held_then new.out
+held_after (Ok s) trace es held held_then old new asked failed same = asked.traded.held
+held_after (Err e) trace es held held_then old new asked failed same = subst (λ (h : List Extent). AllIn h new.out) (sym same) failed.traded.held

@@ -1,5 +1,6 @@
-pub mod Change
+pub mod Acts
 pub mod Reply
 pub mod Slots
+pub mod Spots
 pub mod Stands
 pub mod View

@@ -1,18 +1,27 @@
 -- What contracts see of a machine.
-use Rattle.std.specs.Prelude.{◌≡◌, ℕ, List, [], ◌∷◌, ◌++◌}
+use Rattle.std.specs.Prelude.{◌≡◌, ℕ, List, [], ◌∷◌, ◌++◌, Option}
 use Rattle.mem_base.specs.declared.history.Entry.{Entry}
 use Rattle.mem_base.specs.declared.reply.Step.{Step}
+use Rattle.mem_base.specs.declared.trace.Side.TheVariants as sides
 use Rattle.mem_base.specs.declared.trace.Trace.{Trace}
 use Rattle.trace_model.specs.Plain.{PlainTrack, plain}
 use Rattle.event_model.specs.Effects.{State}
-use Rattle.event_model.specs.Events.{event}
+use Rattle.event_model.specs.Events.{event, next_action}
 use Rattle.event_model.specs.History.{last_state, IsNext}
+use Rattle.event_model.specs.Plans.{GrowsBy, lists}
+use Rattle.event_model.specs.Requests.{raw_asks, raw_refusals}
+use Rattle.raw_region.specs.Region.{PieceView}
+use Rattle.extents.specs.Extent.{Extent}
+use Rattle.sources.specs.Holder.{Answered, Traded}
+use Rattle.sources.specs.Source.{SourceView}
 use Rattle.machine_core.specs.Reply.{plain_reply}
 
--- a machine: its trace and its stored history
+-- a machine: its trace, its stored history, the regions that it holds, and by the number of its name the memory of each block
 pub record MachineView : Type 0 where
   pub trace : Trace
   pub entries : List Entry
+  pub held : List Extent
+  pub pieces : List (Option PieceView)
 
 abbrev pub tracks_of : MachineView → List PlainTrack
 tracks_of m = (plain m.trace).tracks
@@ -21,9 +30,15 @@ tracks_of m = (plain m.trace).tracks
 abbrev pub state_of : MachineView → State
 state_of m = last_state (tracks_of m) m.entries
 
--- one more event, of track t, with its reply
-pub record IsStep (t : ℕ) (old new : MachineView) (step : Step) : Type 0 where
+-- the histories of a trace differ by one more event, of track t, with its reply
+pub record IsEvent (trace : Trace) (old new : List Entry) (t : ℕ) (step : Step) : Type 0 where
   pub track : step.entry.track ≡ t
-  pub next : IsNext (tracks_of old) (state_of old) step.entry
-  pub grows : new ≡ record { trace = old.trace; entries = old.entries ++ step.entry ∷ [] }
-  pub reply : plain_reply step.reply ≡ (event (tracks_of old) (state_of old) step.entry).1
+  pub next : IsNext (plain trace).tracks (last_state (plain trace).tracks old) step.entry
+  pub grows : new ≡ old ++ step.entry ∷ []
+  pub reply : plain_reply step.reply ≡ (event (plain trace).tracks (last_state (plain trace).tracks old) step.entry).1
+
+-- what the raw source answered in the event of an entry: its counts say so, its plan grew by what the operation lists, and regions came or went
+pub record Requests (trace : Trace) (entries : List Entry) (e : Entry) (held held_then : List Extent) (old new : SourceView ℕ) : Type 0 where
+  pub answered : Answered (raw_asks e.raw) (raw_refusals e.raw) old new
+  pub plan : GrowsBy (lists sides.Raw old.asked (next_action (plain trace).tracks (last_state (plain trace).tracks entries) e.track)) old.plan new.plan
+  pub traded : Traded held held_then old new

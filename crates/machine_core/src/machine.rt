@@ -1,8 +1,11 @@
-ghost use Rattle.std.specs.Prelude.{◌≡◌, ◌<◌, ℕ, true, false, [], length, replicate, IfOk, IfSome, IfNone, OnErr};
+ghost use Rattle.std.specs.Prelude.{◌≡◌, ◌<◌, ◌^◌, ℕ, true, false, [], length, replicate, IfOk, IfSome, IfNone, OnErr};
 
+use crate::Spot;
+use crate::spot::spots_of;
 use crate::step::{first_ready_at, is_ready_at, step};
-use crate::store::Store;
-use mem_base::{Counts, History, List, Step, Texts, Totals, Trace, TrackId};
+use crate::store::{Store, totals_of};
+use mem_base::{History, List, Step, Texts, Totals, Trace, TrackId};
+use sources::{ArenaSource, RawSource};
 use std::alloc::{AllocError, Global};
 use std::marker::Model;
 
@@ -24,38 +27,35 @@ fn no_ops_done(alloc: Global, count: usize) -> Result<Vec<u32>, AllocError>
     vec![in alloc; 0; count]
 }
 
-/// No arena was asked for.
-const NO_COUNTS: Counts = Counts {
-    given: 0,
-    back: 0,
-    out: 0,
-    most: 0,
-    pooled: 0,
-};
-
 impl Model for Machine {
     ghost use Rattle.machine_core.specs.View.{MachineView};
+    ghost use Rattle.machine_core.specs.Slots.{pieces_of};
 
     ghost Value = { MachineView };
 
-    ghost use Rattle.machine_core.specs.Stands.{Stands};
+    ghost use Rattle.machine_core.specs.Stands.{IsMachine};
 
-    ghost view = { λ a. record { trace = a.trace; entries = a.history.entries } };
+    ghost view = { λ a. record { trace = a.trace; entries = a.history.entries; held = a.store.domains.raws; pieces = pieces_of a.store.slots.items } };
 
-    ghost invariant = { λ a. Stands a.trace a.history.entries a.store a.owner a.done.items a.faulted };
+    ghost invariant = { λ a. IsMachine a.trace a.history.entries a.store.slots.items a.store.domains.raws a.owner a.done.items a.faulted };
 }
 
 impl Machine {
     ghost use Rattle.event_model.specs.Events.{is_ready};
     ghost use Rattle.event_model.specs.History.{IsLegal, IsDone, totals_of};
-    ghost use Rattle.trace_model.specs.Plain.{plain};
     ghost use Rattle.trace_model.specs.Known.{IsKnownTrace};
-    ghost use Rattle.machine_core.specs.View.{tracks_of, state_of, IsStep};
+    ghost use Rattle.extents.specs.Sums.{AllIn};
+    ghost use Rattle.sources.specs.Holder.{AskedNothing, Traded};
+    ghost use Rattle.machine_core.specs.Acts.{Fails};
+    ghost use Rattle.machine_core.specs.Spots.{AreSpots};
+    ghost use Rattle.machine_core.specs.View.{tracks_of, state_of, IsEvent, Requests};
 
-    /// A machine at the start of a trace.
+    /// A machine at the start of a trace. The error is want of memory, and the trace is gone.
     pub fn new(alloc: Global, trace: Trace) -> Result<Machine, AllocError>
         requires { IsKnownTrace trace }
-        ensures { IfOk result (λ m. m ≡ record { trace = trace; entries = [] }) }
+        ensures trace { IfOk result (λ m. m.trace ≡ trace) }
+        ensures entries { IfOk result (λ m. m.entries ≡ []) }
+        ensures held { IfOk result (λ m. m.held ≡ []) }
     {
         let done = no_ops_done(alloc, trace.tracks.len())?;
         let store = Store::new(alloc, trace.texts.len())?;
@@ -106,21 +106,34 @@ impl Machine {
     pub fn totals(&self) -> Totals
         ensures { result ≡ totals_of (tracks_of self.now) self.now.entries }
     {
-        let blocks = self.store.totals();
+        let blocks = totals_of(self.store.slots.as_slice());
         Totals {
             events: self.history.entries.len() as u64,
             owner: self.owner,
             blocks: blocks.blocks,
             bytes: blocks.bytes,
-            counts: NO_COUNTS,
+            counts: self.store.domains.counts(),
             traced: 0,
             peak: 0,
         }
     }
 
-    /// Gives up all blocks, and hands the history back.
-    pub fn end(self) -> History
-        ensures { result.entries ≡ self.entries }
+    /// Where the live blocks lie, by the numbers of their names.
+    pub fn places(&self) -> Result<List<Spot>, AllocError>
+        ensures { IfOk result (AreSpots self.now) }
+    {
+        // The table of texts says that each number fits.
+        let _count = self.trace.texts.len();
+        spots_of(self.alloc, self.store.slots.as_slice())
+    }
+
+    /// Gives up all blocks and hands the history back. All regions go back to their source.
+    pub fn end<A: ArenaSource, R: RawSource>(self, arenas: &mut A, raws: &mut R) -> History
+        requires held { AllIn self.held (R.seen raws.old).out }
+        ensures history { result.entries ≡ self.entries }
+        ensures nothing { AskedNothing (R.seen raws.old) (R.seen raws.new) }
+        ensures traded { Traded self.held [] (R.seen raws.old) (R.seen raws.new) }
+        ensures arenas { A.seen arenas.new ≡ A.seen arenas.old }
     {
         let Machine {
             alloc: _,
@@ -131,7 +144,7 @@ impl Machine {
             done: _,
             faulted: _,
         } = self;
-        store.end();
+        store.end(arenas, raws);
         history
     }
 
@@ -146,17 +159,31 @@ impl Machine {
     /// The first track that is ready.
     pub fn first_ready(&self) -> Option<TrackId>
         ensures first { IfSome result (λ t. is_ready (tracks_of self.now) (state_of self.now) t ≡ true) }
+        ensures before { IfSome result (λ t. (u : ℕ) → u < t → is_ready (tracks_of self.now) (state_of self.now) u ≡ false) }
         ensures none { IfNone result (IsDone (tracks_of self.now) (state_of self.now)) }
     {
         first_ready_at(&self.trace, self.owner, self.done.as_slice())
     }
 
-    /// Does the next event of a track that is ready. Where memory runs out, nothing was done.
-    pub fn step(&mut self, t: TrackId) -> Result<Step, AllocError>
+    /// Does the next event of a track that is ready. Where memory runs out, the machine is as it was,
+    /// and all that a source granted has gone back to it.
+    pub fn step<A: ArenaSource, R: RawSource>(
+        &mut self,
+        t: TrackId,
+        arenas: &mut A,
+        raws: &mut R,
+    ) -> Result<Step, AllocError>
         requires ready { is_ready (tracks_of self.old) (state_of self.old) t ≡ true }
         requires no_fault { (state_of self.old).faulted ≡ false }
-        ensures step { IfOk result (λ step. IsStep t self.old self.new step) }
+        requires count { (R.seen raws.old).asked < 2 ^ 63 }
+        requires held { AllIn self.old.held (R.seen raws.old).out }
+        ensures trace { self.new.trace ≡ self.old.trace }
+        ensures step { IfOk result (λ step. IsEvent self.old.trace self.old.entries self.new.entries t step) }
+        ensures requests { IfOk result (λ step. Requests self.old.trace self.old.entries step.entry self.old.held self.new.held (R.seen raws.old) (R.seen raws.new)) }
         ensures err { OnErr result (self.new ≡ self.old) }
+        ensures fails { OnErr result (Fails self.old.held (R.seen raws.old) (R.seen raws.new)) }
+        ensures held { AllIn self.new.held (R.seen raws.new).out }
+        ensures arenas { A.seen arenas.new ≡ A.seen arenas.old }
     {
         step(
             self.alloc,
@@ -167,6 +194,8 @@ impl Machine {
             &mut self.done,
             &mut self.faulted,
             t,
+            arenas,
+            raws,
         )
     }
 }

@@ -5,16 +5,21 @@ ghost use Rattle.trace_model.specs.Known.{op_at};
 ghost use Rattle.event_model.specs.Events.{is_ready, is_fault as is_fault_reply, let_go, may_do, action_after};
 ghost use Rattle.event_model.specs.History.{last_state};
 ghost use Rattle.machine_core.specs.Reply.{plain_reply};
-ghost use Rattle.machine_core.specs.View.{IsStep};
+ghost use Rattle.extents.specs.Sums.{AllIn};
+ghost use Rattle.machine_core.specs.Acts.{Fails};
+ghost use Rattle.machine_core.specs.Slots.{bodies_of, IsStored};
 ghost use Rattle.machine_core.specs.Stands.{Stands};
+ghost use Rattle.machine_core.specs.View.{IsEvent, Requests};
 
-use crate::prepare::{make, prepare};
-use crate::store::Store;
-use mem_base::{Ask, Entry, Grant, History, Op, Reply, Step, Trace, TrackId};
+use crate::act::act;
+use crate::store::{Acted, NOT_ASKED, Store};
+use mem_base::{Entry, History, Op, Reply, Step, Trace, TrackId};
+use raw_domains::Asked;
+use sources::{ArenaSource, RawSource};
 use std::alloc::{AllocError, Global};
 
 /// The operation at a place of a track.
-pub fn next_op(trace: &Trace, t: TrackId, at: u32) -> Option<&Op>
+pub(crate) fn next_op(trace: &Trace, t: TrackId, at: u32) -> Option<&Op>
     ensures { option_copied result ≡ op_at trace.now.tracks t at }
 {
     match trace.tracks.get(t as usize) {
@@ -34,7 +39,7 @@ fn owner_then(trace: &Trace, t: TrackId, done: u32, owner: Option<TrackId>) -> O
 }
 
 /// Whether the track has an operation left, and needs wait for no other.
-pub fn is_ready_at(trace: &Trace, owner: Option<TrackId>, done: &[u32], t: TrackId) -> bool
+pub(crate) fn is_ready_at(trace: &Trace, owner: Option<TrackId>, done: &[u32], t: TrackId) -> bool
     requires { t < length done.now }
     ensures { result ≡ may_do owner t (action_after (plain trace.now).tracks t (slice_index done.now t)) }
 {
@@ -46,10 +51,11 @@ pub fn is_ready_at(trace: &Trace, owner: Option<TrackId>, done: &[u32], t: Track
 }
 
 /// The first track that is ready.
-pub fn first_ready_at(trace: &Trace, owner: Option<TrackId>, done: &[u32]) -> Option<TrackId>
+pub(crate) fn first_ready_at(trace: &Trace, owner: Option<TrackId>, done: &[u32]) -> Option<TrackId>
     requires tracks { length done.now ≡ length trace.now.tracks }
     requires few { length done.now ≤ 64 }
     ensures first { IfSome result (λ t. may_do owner t (action_after (plain trace.now).tracks t (slice_index done.now t)) ≡ true) }
+    ensures before { IfSome result (λ t. (u : ℕ) → u < t → may_do owner u (action_after (plain trace.now).tracks u (slice_index done.now u)) ≡ false) }
     ensures none { IfNone result ((t : ℕ) → may_do owner t (action_after (plain trace.now).tracks t (slice_index done.now t)) ≡ false) }
 {
     for t in 0..done.len() {
@@ -59,6 +65,18 @@ pub fn first_ready_at(trace: &Trace, owner: Option<TrackId>, done: &[u32]) -> Op
         }
     }
     None
+}
+
+// The entry of an event.
+fn entry_of(t: TrackId, at: u32, asked: Asked) -> Entry
+    ensures { result ≡ record { track = t; at = at; arena = asked.arena; raw = asked.raw } }
+{
+    Entry {
+        track: t,
+        at,
+        arena: asked.arena,
+        raw: asked.raw,
+    }
 }
 
 // Whether the reply is a fault.
@@ -95,8 +113,9 @@ fn settle(
     done[t as usize] = after;
 }
 
-/// Does the next event of the track.
-pub fn step(
+/// Does the next event of the track. Its entry is kept first, since all else that can fail comes
+/// before any change.
+pub(crate) fn step<A: ArenaSource, R: RawSource>(
     alloc: Global,
     trace: &Trace,
     history: &mut History,
@@ -105,28 +124,32 @@ pub fn step(
     done: &mut Vec<u32>,
     faulted: &mut bool,
     t: TrackId,
+    arenas: &mut A,
+    raws: &mut R,
 ) -> Result<Step, AllocError>
-    requires stands { Stands trace.now history.old.entries store.old owner.old done.old.items faulted.old }
+    requires stands { Stands trace.now history.old.entries (bodies_of store.old.slots.items) owner.old done.old.items faulted.old }
+    requires stored { IsStored store.old.slots.items store.old.domains.raws }
     requires ready { is_ready (plain trace.now).tracks (last_state (plain trace.now).tracks history.old.entries) t ≡ true }
     requires sound { faulted.old ≡ false }
-    ensures stands { Stands trace.now history.new.entries store.new owner.new done.new.items faulted.new }
-    ensures step { IfOk result (λ step. IsStep t (record { trace = trace.now; entries = history.old.entries }) (record { trace = trace.now; entries = history.new.entries }) step) }
-    ensures err { OnErr result (history.new.entries ≡ history.old.entries) }
+    requires count { (R.seen raws.old).asked < 2 ^ 63 }
+    requires held { AllIn store.old.domains.raws (R.seen raws.old).out }
+    ensures stands { Stands trace.now history.new.entries (bodies_of store.new.slots.items) owner.new done.new.items faulted.new }
+    ensures stored { IsStored store.new.slots.items store.new.domains.raws }
+    ensures step { IfOk result (λ step. IsEvent trace.now history.old.entries history.new.entries t step) }
+    ensures asks { IfOk result (λ step. Requests trace.now history.old.entries step.entry store.old.domains.raws store.new.domains.raws (R.seen raws.old) (R.seen raws.new)) }
+    ensures err { OnErr result ((history.new.entries ≡ history.old.entries) × (store.new.slots.items ≡ store.old.slots.items) × (store.new.domains ≡ store.old.domains)) }
+    ensures fails { OnErr result (Fails store.old.domains.raws (R.seen raws.old) (R.seen raws.new)) }
+    ensures arenas { A.seen arenas.new ≡ A.seen arenas.old }
 {
     let at = done[t as usize];
     let Some(op) = next_op(trace, t, at) else {
         unreachable!()
     };
-    let entry = Entry {
-        track: t,
-        at,
-        arena: Grant::NotAsked,
-        raw: Ask::NotAsked,
-    };
-    history.entries.push(entry)?;
-    match prepare(alloc, store, *owner, t, op) {
-        Ok((reply, change)) => {
-            make(store, owner, change);
+    history.entries.push(entry_of(t, at, NOT_ASKED))?;
+    match act(alloc, store, owner, t, op, arenas, raws) {
+        Ok(Acted { reply, asked }) => {
+            let entry = entry_of(t, at, asked);
+            history.entries.set_last(entry);
             settle(trace, owner, done, faulted, t, &reply);
             Ok(Step { entry, reply })
         }

@@ -1,65 +1,74 @@
-ghost use Rattle.std.specs.Prelude.{◌≡◌, ◌<◌, ℕ, List, length, slice_get, slice_set, replicate, IfOk, Some, None, Option, sum_by, true};
+//! The blocks, by the numbers of their names.
+ghost use Rattle.std.specs.Prelude.{◌≡◌, ◌<◌, ◌≤◌, ◌^◌, [], length, get_or, replicate, slice_set, sum_by, vec_capacity, IfOk, OnErr, IfSome, IfNone, None, Some};
 ghost use Rattle.std.specs.Option.{option_copied, option_map};
-ghost use Rattle.block_model.specs.Block.{Body, IsOffset, reaches, poked};
-ghost use Rattle.machine_core.specs.Slots.{bodies_of, body_in, count_in, size_in};
+ghost use Rattle.block_model.specs.Block.{IsOffset};
+ghost use Rattle.event_model.specs.Effects.{decision, freed, made, read, written};
+ghost use Rattle.event_model.specs.Requests.{malloc_asks, raw_asks, raw_refusals, was_asked};
+ghost use Rattle.extents.specs.Extent.{AreApart};
+ghost use Rattle.extents.specs.Sums.{AllIn, Has, Removed};
+ghost use Rattle.debug_guard.specs.Guard.{guard_extent};
+ghost use Rattle.sources.specs.Holder.{Answered, AskedNothing, AskedOnce, Traded};
+ghost use Rattle.machine_core.specs.Reply.{plain_reply, answer_to, fault_answer, answer_after};
+ghost use Rattle.machine_core.specs.Slots.{bodies_of, body_at, body_in, count_in, size_in, IsStored, IsTurn, slots_with, slots_after};
 
-use debug_guard::{Guarded, kill, poke, size};
-use mem_base::TextId;
+use debug_guard::{Guarded, peek, poke, report, size};
+use mem_base::{Ask, Fault, Grant, Letter, List, Reply, TextId};
+use raw_domains::{Asked, Domains, Freed, Got, Made};
+use sources::{ArenaSource, RawSource};
 use std::alloc::{AllocError, Global};
-use std::marker::Model;
 use std::mem;
 
-/// The blocks, by the numbers of their names. It must be spent by `end`.
-pub struct Store {
-    slots: Vec<Option<Guarded>>,
+/// The blocks, by the numbers of their names, and the domains that they belong to. It must be spent
+/// by `end`.
+pub(crate) struct Store {
+    pub(crate) slots: Vec<Option<Guarded>>,
+    pub(crate) domains: Domains,
 }
 
-impl Model for Store {
-    ghost use Rattle.std.specs.Prelude.{List, ℕ, Option};
-    ghost use Rattle.machine_core.specs.Slots.{bodies_of};
+/// No source was asked.
+pub(crate) const NOT_ASKED: Asked = Asked {
+    arena: Grant::NotAsked,
+    raw: Ask::NotAsked,
+};
 
-    ghost Value = { List (Option (List ℕ)) };
-
-    ghost view = { λ s. bodies_of s.slots.items };
+/// What an operation answers, and what the sources did.
+pub(crate) struct Acted {
+    pub(crate) reply: Reply,
+    pub(crate) asked: Asked,
 }
 
-// No block at any number.
-fn empty_slots(alloc: Global, count: usize) -> Result<Vec<Option<Guarded>>, AllocError>
-    ensures { IfOk result (λ v. bodies_of v.items ≡ replicate count None) }
+impl Acted {
+    /// The reply of an operation that asks no source.
+    pub(crate) fn unasked(reply: Reply) -> Acted
+        ensures { result ≡ record { reply = reply; asked = record { arena = Grant.NotAsked; raw = Ask.NotAsked } } }
+    {
+        Acted {
+            reply,
+            asked: NOT_ASKED,
+        }
+    }
+}
+
+// No block at any of so many numbers.
+fn empty_slots(mut slots: Vec<Option<Guarded>>, count: usize) -> Vec<Option<Guarded>>
+    requires empty { slots.items ≡ [] }
+    requires room { count ≤ vec_capacity slots }
+    ensures { result.items ≡ replicate count None }
 {
-    let mut slots = Vec::with_capacity(alloc, count)?;
     for _ in 0..count {
         slots.push_reserved(None);
     }
-    Ok(slots)
-}
-
-// Gives up the block, where there is one.
-fn give_up(slot: Option<Guarded>) {
-    if let Some(block) = slot {
-        let _piece = kill(block);
-    }
-}
-
-// Writes into the block, where there is one.
-fn poke_slot(slot: &mut Option<Guarded>, offset: &i64, bytes: &[u8])
-    requires offset { IsOffset offset.now }
-    requires reach { (block : Body) → body_in slot.old ≡ Some block → reaches block offset.now (length bytes.now) ≡ true }
-    ensures { body_in slot.new ≡ option_map (λ block. poked block offset.now bytes.now) (body_in slot.old) }
-{
-    if let Some(block) = slot {
-        poke(block, *offset, bytes);
-    }
+    slots
 }
 
 /// How many blocks there are, and how many bytes of data they have.
 #[derive(Clone, Copy, Debug, PartialEq, Eq)]
-pub struct StoreTotals {
-    pub blocks: u64,
-    pub bytes: u128,
+pub(crate) struct StoreTotals {
+    pub(crate) blocks: u64,
+    pub(crate) bytes: u128,
 }
 
-fn totals_of(slots: &[Option<Guarded>]) -> StoreTotals
+pub(crate) fn totals_of(slots: &[Option<Guarded>]) -> StoreTotals
     ensures blocks { result.blocks ≡ sum_by count_in (bodies_of slots.now) }
     ensures bytes { result.bytes ≡ sum_by size_in (bodies_of slots.now) }
 {
@@ -76,64 +85,249 @@ fn totals_of(slots: &[Option<Guarded>]) -> StoreTotals
     totals
 }
 
+// ---- one slot
+
+// Puts a block where there is none.
+fn put_new(slots: &mut Vec<Option<Guarded>>, name: TextId, block: Guarded)
+    requires there { name.0 < length slots.old.items }
+    requires free { get_or slots.old.items name.0 None ≡ None }
+    ensures { slots.new.items ≡ slice_set slots.old.items name.0 (Some block) }
+{
+    match mem::replace(&mut slots[name.0 as usize], Some(block)) {
+        None => {}
+        Some(_other) => unreachable!(),
+    }
+}
+
+// Keeps a block that was made, and answers the request for it.
+fn keep(slots: &mut Vec<Option<Guarded>>, name: TextId, got: Got) -> Reply
+    requires there { name.0 < length slots.old.items }
+    requires free { get_or slots.old.items name.0 None ≡ None }
+    ensures slots { slots.new.items ≡ slots_with slots.old.items name.0 got }
+    ensures answer { plain_reply result ≡ answer_to got }
+{
+    match got {
+        Got::Block(block) => {
+            put_new(slots, name, block);
+            Reply::Ok
+        }
+        Got::Null => Reply::Null,
+        Got::Fault(found) => Reply::Fault(found, None),
+    }
+}
+
+// What is answered to a call that found this fault, in this block.
+fn fault_reply(block: &Guarded, found: Fault) -> Reply
+    ensures { plain_reply result ≡ fault_answer found block.now.body }
+{
+    match found {
+        Fault::Unlocked => Reply::Fault(found, None),
+        _ => Reply::Fault(found, Some(report(block))),
+    }
+}
+
+// Puts back a block that was not given up, and answers the call.
+fn put_back(slots: &mut Vec<Option<Guarded>>, name: TextId, freed: Freed) -> Reply
+    requires there { name.0 < length slots.old.items }
+    requires free { get_or slots.old.items name.0 None ≡ None }
+    ensures slots { slots.new.items ≡ slots_after slots.old.items name.0 freed }
+    ensures answer { plain_reply result ≡ answer_after freed }
+{
+    match freed {
+        Freed::Done => Reply::Ok,
+        Freed::Fault(block, found) => {
+            let reply = fault_reply(&block, found);
+            put_new(slots, name, block);
+            reply
+        }
+    }
+}
+
+// Pokes the block of a slot.
+fn poke_slot(slot: &mut Option<Guarded>, offset: &i64, bytes: &[u8]) -> Reply
+    requires { IsOffset offset.now }
+    ensures block { body_in slot.new ≡ (written offset.now bytes.now (body_in slot.old)).0 }
+    ensures answer { plain_reply result ≡ (written offset.now bytes.now (body_in slot.old)).1 }
+    ensures stays { option_map guard_extent slot.new ≡ option_map guard_extent slot.old }
+{
+    let Some(block) = slot else {
+        return Reply::Absent;
+    };
+    if poke(block, *offset, bytes) {
+        Reply::Ok
+    } else {
+        Reply::Outside
+    }
+}
+
+// Peeks into the block of a slot.
+fn peek_slot(
+    alloc: Global,
+    slot: Option<&Guarded>,
+    offset: &i64,
+    count: u64,
+) -> Result<Reply, AllocError>
+    requires { IsOffset offset.now }
+    ensures { IfOk result (λ reply. plain_reply reply ≡ (read offset.now count (body_in (option_copied slot.entry))).1) }
+{
+    let Some(block) = slot else {
+        return Ok(Reply::Absent);
+    };
+    let Some(found) = peek(block, *offset, count) else {
+        return Ok(Reply::Outside);
+    };
+    let bytes = List::from_slice(alloc, found)?;
+    Ok(Reply::Bytes(bytes))
+}
+
+// Gives up the block of a slot, where there is one.
+fn drop_slot<A: ArenaSource, R: RawSource>(
+    slot: Option<Guarded>,
+    domains: &mut Domains,
+    arenas: &mut A,
+    raws: &mut R,
+)
+    requires loan { IfSome slot (λ block. Has (guard_extent block) domains.old.raws) }
+    requires apart { AreApart domains.old.raws }
+    requires held { AllIn domains.old.raws (R.seen raws.old).out }
+    ensures back { IfSome slot (λ block. Removed (guard_extent block) domains.old.raws domains.new.raws) }
+    ensures none { IfNone slot (domains.new.raws ≡ domains.old.raws) }
+    ensures nothing { AskedNothing (R.seen raws.old) (R.seen raws.new) }
+    ensures traded { Traded domains.old.raws domains.new.raws (R.seen raws.old) (R.seen raws.new) }
+    ensures apart { AreApart domains.new.raws }
+    ensures arenas { A.seen arenas.new ≡ A.seen arenas.old }
+{
+    if let Some(block) = slot {
+        domains.drop_block(block, arenas, raws);
+    }
+}
+
 impl Store {
-    ghost use Rattle.machine_core.specs.Change.{block_at};
-
     /// A store with no block at any of so many numbers.
-    pub fn new(alloc: Global, count: usize) -> Result<Store, AllocError>
-        ensures { IfOk result (λ s. s ≡ replicate count None) }
+    pub(crate) fn new(alloc: Global, count: usize) -> Result<Store, AllocError>
+        ensures slots { IfOk result (λ s. s.slots.items ≡ replicate count None) }
+        ensures stored { IfOk result (λ s. IsStored s.slots.items s.domains.raws) }
+        ensures raws { IfOk result (λ s. s.domains.raws ≡ []) }
     {
-        Ok(Store {
-            slots: empty_slots(alloc, count)?,
-        })
+        let slots = Vec::with_capacity(alloc, count)?;
+        match Domains::new(alloc) {
+            Ok(domains) => Ok(Store {
+                slots: empty_slots(slots, count),
+                domains,
+            }),
+            Err(error) => {
+                slots.destroy_empty();
+                Err(error)
+            }
+        }
     }
 
-    /// The block of a name.
-    pub fn block(&self, name: TextId) -> Option<&Guarded>
-        requires { name.0 < length self.now }
-        ensures { slice_get self.now name.0 ≡ Some (body_in (option_copied result)) }
+    /// A block of a name, where it has none yet.
+    pub(crate) fn malloc<A: ArenaSource, R: RawSource>(
+        &mut self,
+        name: TextId,
+        letter: Letter,
+        size: u64,
+        locked: bool,
+        arenas: &mut A,
+        raws: &mut R,
+    ) -> Result<Acted, AllocError>
+        requires there { name.0 < length self.old.slots.items }
+        requires stored { IsStored self.old.slots.items self.old.domains.raws }
+        requires count { (R.seen raws.old).asked < 2 ^ 63 }
+        requires held { AllIn self.old.domains.raws (R.seen raws.old).out }
+        ensures turn { IfOk result (λ a. IsTurn name.0 (made letter size locked a.asked.raw) self.old.slots.items self.new.slots.items (plain_reply a.reply)) }
+        ensures asks { IfOk result (λ a. was_asked a.asked.raw ≡ malloc_asks (body_at self.old.slots.items name.0) (decision letter size locked)) }
+        ensures arena { IfOk result (λ a. a.asked.arena ≡ Grant.NotAsked) }
+        ensures answered { IfOk result (λ a. Answered (raw_asks a.asked.raw) (raw_refusals a.asked.raw) (R.seen raws.old) (R.seen raws.new)) }
+        ensures plan { (R.seen raws.new).plan ≡ (R.seen raws.old).plan }
+        ensures failed { OnErr result ((self.new.slots.items ≡ self.old.slots.items) × (self.new.domains ≡ self.old.domains)) }
+        ensures once { OnErr result (AskedOnce (R.seen raws.old) (R.seen raws.new)) }
+        ensures traded { Traded self.old.domains.raws self.new.domains.raws (R.seen raws.old) (R.seen raws.new) }
+        ensures stored { IsStored self.new.slots.items self.new.domains.raws }
+        ensures arenas { A.seen arenas.new ≡ A.seen arenas.old }
     {
-        self.slots[name.0 as usize].as_ref()
+        if self.slots[name.0 as usize].is_some() {
+            return Ok(Acted::unasked(Reply::Busy));
+        }
+        let Made { got, asked } = self.domains.malloc(letter, size, locked, arenas, raws)?;
+        let reply = keep(&mut self.slots, name, got);
+        Ok(Acted { reply, asked })
     }
 
-    /// Gives a name this block, in place of the one that it had.
-    pub fn put(&mut self, name: TextId, block: Guarded)
-        requires { name.0 < length self.old }
-        ensures { self.new ≡ slice_set self.old name.0 (Some block.body) }
+    /// Gives up the block of a name, where it has one.
+    pub(crate) fn free<A: ArenaSource, R: RawSource>(
+        &mut self,
+        name: TextId,
+        letter: Letter,
+        locked: bool,
+        arenas: &mut A,
+        raws: &mut R,
+    ) -> Reply
+        requires there { name.0 < length self.old.slots.items }
+        requires stored { IsStored self.old.slots.items self.old.domains.raws }
+        requires held { AllIn self.old.domains.raws (R.seen raws.old).out }
+        ensures turn { IsTurn name.0 (freed letter locked) self.old.slots.items self.new.slots.items (plain_reply result) }
+        ensures nothing { AskedNothing (R.seen raws.old) (R.seen raws.new) }
+        ensures traded { Traded self.old.domains.raws self.new.domains.raws (R.seen raws.old) (R.seen raws.new) }
+        ensures stored { IsStored self.new.slots.items self.new.domains.raws }
+        ensures arenas { A.seen arenas.new ≡ A.seen arenas.old }
     {
-        give_up(mem::replace(&mut self.slots[name.0 as usize], Some(block)));
-    }
-
-    /// Gives up the block of a name.
-    pub fn remove(&mut self, name: TextId)
-        requires { name.0 < length self.old }
-        ensures { self.new ≡ slice_set self.old name.0 None }
-    {
-        give_up(self.slots[name.0 as usize].take());
+        match self.slots[name.0 as usize].take() {
+            Some(block) => {
+                let freed = self.domains.free(block, letter, locked, arenas, raws);
+                put_back(&mut self.slots, name, freed)
+            }
+            None => match self.domains.need(letter, locked) {
+                Some(found) => Reply::Fault(found, None),
+                None => Reply::Ok,
+            },
+        }
     }
 
     /// Writes bytes at an offset from the data of a name's block.
-    pub fn write(&mut self, name: TextId, offset: &i64, bytes: &[u8])
+    pub(crate) fn poke(&mut self, name: TextId, offset: &i64, bytes: &[u8]) -> Reply
+        requires there { name.0 < length self.old.slots.items }
+        requires stored { IsStored self.old.slots.items self.old.domains.raws }
         requires offset { IsOffset offset.now }
-        requires reach { (block : Body) × (slice_get self.old name.0 ≡ Some (Some block)) × (reaches block offset.now (length bytes.now) ≡ true) }
-        ensures { self.new ≡ slice_set self.old name.0 (Some (poked (block_at self.old name.0) offset.now bytes.now)) }
+        ensures turn { IsTurn name.0 (written offset.now bytes.now) self.old.slots.items self.new.slots.items (plain_reply result) }
+        ensures same { self.new.domains ≡ self.old.domains }
+        ensures stored { IsStored self.new.slots.items self.new.domains.raws }
     {
-        poke_slot(&mut self.slots[name.0 as usize], offset, bytes);
+        poke_slot(&mut self.slots[name.0 as usize], offset, bytes)
     }
 
-    pub fn totals(&self) -> StoreTotals
-        ensures blocks { result.blocks ≡ sum_by count_in self.now }
-        ensures bytes { result.bytes ≡ sum_by size_in self.now }
+    /// Reads bytes at an offset from the data of a name's block.
+    pub(crate) fn peek(
+        &self,
+        alloc: Global,
+        name: TextId,
+        offset: &i64,
+        count: u64,
+    ) -> Result<Reply, AllocError>
+        requires there { name.0 < length self.now.slots.items }
+        requires offset { IsOffset offset.now }
+        ensures { IfOk result (λ reply. IsTurn name.0 (read offset.now count) self.now.slots.items self.now.slots.items (plain_reply reply)) }
     {
-        totals_of(self.slots.as_slice())
+        peek_slot(alloc, self.slots[name.0 as usize].as_ref(), offset, count)
     }
 
     /// Gives up all blocks.
-    pub fn end(self) {
-        let Store { mut slots } = self;
+    pub(crate) fn end<A: ArenaSource, R: RawSource>(self, arenas: &mut A, raws: &mut R)
+        requires stored { IsStored self.slots.items self.domains.raws }
+        requires held { AllIn self.domains.raws (R.seen raws.old).out }
+        ensures nothing { AskedNothing (R.seen raws.old) (R.seen raws.new) }
+        ensures traded { Traded self.domains.raws [] (R.seen raws.old) (R.seen raws.new) }
+        ensures arenas { A.seen arenas.new ≡ A.seen arenas.old }
+    {
+        let Store {
+            mut slots,
+            mut domains,
+        } = self;
         while let Some(slot) = slots.pop() {
-            give_up(slot);
+            drop_slot(slot, &mut domains, arenas, raws);
         }
         slots.destroy_empty();
+        domains.end(arenas, raws);
     }
 }

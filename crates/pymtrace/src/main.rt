@@ -3,6 +3,7 @@
 #![tactic(auto)]
 
 use replay_tool::run;
+use sources::{MemArenas, MemRaw};
 use std::process::ExitCode;
 use std::rt::Env;
 use std::{env, io};
@@ -24,7 +25,7 @@ fn words<R: Env + AllocGlobal>(rt: &R) -> io::Result<Vec<String>> {
     Ok(words)
 }
 
-/// The status of a run that found no memory for its words.
+/// The status of a run that found no memory for its words or its sources.
 const OUT_OF_MEMORY: u8 = 6;
 
 fn main(rt: HostRuntime) -> ExitCode {
@@ -34,6 +35,17 @@ fn main(rt: HostRuntime) -> ExitCode {
     let mut input = StdSource::new(rt.stdin());
     let mut out = StdSink::new(rt.stdout());
     let mut err = StdSink::new(rt.stderr());
-    let outcome = run(rt.alloc(), words.as_slice(), &mut input, &mut out, &mut err);
+    let (Ok(mut arenas), Ok(mut raw)) = (MemArenas::new(rt.alloc()), MemRaw::new(rt.alloc())) else {
+        return ExitCode::from(OUT_OF_MEMORY);
+    };
+    let outcome = run(
+        rt.alloc(),
+        words.as_slice(),
+        &mut input,
+        &mut arenas,
+        &mut raw,
+        &mut out,
+        &mut err,
+    );
     ExitCode::from(outcome.status)
 }

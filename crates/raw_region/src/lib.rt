@@ -13,6 +13,7 @@
 //! this crate holds raw pointers into that memory.
 #![tactic(auto)]
 
+mod laws;
 mod maker;
 mod memory;
 mod piece;
@@ -21,6 +22,7 @@ mod shell;
 #[cfg(test)]
 mod tests;
 
+pub use laws::{bytes_after_a_write, home_after_a_carve, home_after_a_write, lent_beside_a_run};
 pub use maker::Maker;
 pub use piece::Piece;
 pub use region::Region;

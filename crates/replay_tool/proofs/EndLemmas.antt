@@ -1,5 +1,5 @@
 -- What the ways in which a run may end tell of its status.
-use Rattle.std.proofs.Common.{◌≡◌, ℕ, ◌⊎◌, inl, inr, List, Option, Some, None, Result, Ok, Err, refl, sym, ap, ◌∙◌, arith, ◌<◌, ◌≤◌, length, Bool, true, false, cond, length-append}
+use Rattle.std.proofs.Common.{◌≡◌, ℕ, ◌⊎◌, inl, inr, List, [], Option, Some, None, Result, Ok, Err, refl, sym, ap, ◌∙◌, arith, ◌<◌, ◌≤◌, length, Bool, true, false, cond, length-append, true≢false}
 use Rattle.std.specs.Prelude.{IfSome}
 use Rattle.std.specs.Io.KnownBytes.{Keeps}
 use Rattle.streams.specs.Faults.{Rose}
@@ -18,7 +18,9 @@ use Rattle.replay_tool.specs.declared.refusal.Refusal.TheVariants.{Usage, Refuse
 use Rattle.replay_tool.specs.Words.{AsksReplay}
 use Rattle.replay_tool.specs.Events.{Ending, whole, cut, ran_out}
 use Rattle.replay_tool.specs.Refusals.{status_of, max_input, IsInputCause, IsCause}
-use Rattle.replay_tool.specs.Ended.{Run, Ran, Told, DidNothing, Ended, ran, told, untold, never_began, Refusing, told_it, failed, ran_short}
+use Rattle.sources.specs.Source.{ArenaShape, SourceView}
+use Rattle.replay_tool.specs.Served.{arenas_shaped, raw_shaped}
+use Rattle.replay_tool.specs.Ended.{Run, Ran, Told, DidNothing, LeftAlone, Ended, ran, told, untold, never_began, Refusing, told_it, failed, ran_short}
 use Rattle.replay_tool.specs.Outcome.{Cause, IsReplayed, IsTold, IsRefusal, IsCutOff, IsUntold, IsBrokenOff, IsOrYields, RefusesFaulty, RefusesTooMany, ReplaysSpelt}
 
 -- ---- how a refusal ends a run
@@ -36,12 +38,15 @@ asked_or (Refused line cause) words old new before now h other = h.0
 asked_or ReadFault words old new before now h other = h.0
 asked_or TooLong words old new before now h other = h.0
 
-pub refused_ends : (r : Run) (refusal : Refusal) → IsCause refusal r.words r.left r.left_then r.read_faults r.read_faults_then → DidNothing r.out r.out_then r.entries
+pub refused_ends : (r : Run) (refusal : Refusal) → IsCause refusal r.words r.left r.left_then r.read_faults r.read_faults_then → DidNothing r.out r.out_then r.entries → LeftAlone r
     → Refusing refusal r.err r.err_then r.err_faults r.err_faults_then r.status → Ended r
-refused_ends r refusal cause nothing (told_it st line) = told refusal st (record { cause = cause; line = line; nothing = nothing })
-refused_ends r refusal cause nothing (failed st rose front) = untold refusal st (record { cause = cause; rose = rose; front = front; nothing = nothing })
-refused_ends r refusal cause nothing (ran_short st other kept) =
-    never_began st (record { asked = asked_or refusal r.words r.left r.left_then r.read_faults r.read_faults_then cause other; nothing = nothing; quiet = kept })
+refused_ends r refusal cause nothing alone (told_it st line) = told refusal st (record { cause = cause; line = line; nothing = nothing; alone = alone })
+refused_ends r refusal cause nothing alone (failed st rose front) = untold refusal st (record { cause = cause; rose = rose; front = front; nothing = nothing; alone = alone })
+refused_ends r refusal cause nothing alone (ran_short st other kept) =
+    never_began st (record { asked = asked_or refusal r.words r.left r.left_then r.read_faults r.read_faults_then cause other; nothing = nothing; alone = alone; quiet = kept })
+
+pub not_both : (b : Bool) → b ≡ true → b ≡ false → ⊥
+not_both b yes_ no_ = absurd (true≢false (sym yes_ ∙ no_))
 
 -- ---- statuses
 
@@ -77,19 +82,20 @@ fell : (b : Bool) → 1 ≡ zero_or_one b → b ≡ true
 fell true h = refl
 fell false h = absurd (omega arith)
 
-pub replayed_is : (r : Run) → Ended r → r.status ≤ 1 → IsReplayed r.words r.left r.left_then r.out r.out_then r.entries r.status
+pub replayed_is : (r : Run) → Ended r → r.status ≤ 1 → IsReplayed r.words r.left r.left_then r.out r.out_then r.entries r.status r.raw r.raw_then
 replayed_is r (ran x) h = by x.ending
   where
-    by : Ending x.trace.tracks r.entries r.out r.out_then r.out_faults r.out_faults_then r.status → IsReplayed r.words r.left r.left_then r.out r.out_then r.entries r.status
-    by (whole st run) = record {
+    by : Ending x.trace.tracks r.entries r.out r.out_then r.out_faults r.out_faults_then r.status (raw_shaped r.raw) r.raw_then → IsReplayed r.words r.left r.left_then r.out r.out_then r.entries r.status r.raw r.raw_then
+    by (whole st run served) = record {
       trace = x.trace;
       accepted = x.accepted;
       run = run;
+      served = served;
       status_is = st;
       fault = λ one. ends_in_fault x.trace.tracks r.entries run.legal (fell (last_state x.trace.tracks r.entries).faulted (sym one ∙ st));
     }
-    by (cut st rose was) = absurd (omega (arith, st, h))
-    by (ran_out st was) = absurd (omega (arith, st, h))
+    by (cut st rose was served) = absurd (omega (arith, st, h))
+    by (ran_out st was served) = absurd (omega (arith, st, h))
 replayed_is r (told refusal st t) h = absurd (omega (arith, st, h, status_least refusal))
 replayed_is r (untold refusal st t) h = absurd (omega (arith, st, h))
 replayed_is r (never_began st t) h = absurd (omega (arith, st, h))
@@ -109,10 +115,10 @@ record ToldAt (r : Run) (n : ℕ) : Type 0 where
 told_at : (r : Run) (n : ℕ) → Ended r → r.status ≡ n → 2 ≤ n → (n ≡ 5 → ⊥) → (n ≡ 6 → ⊥) → ToldAt r n
 told_at r n (ran x) is least five six = by x.ending
   where
-    by : Ending x.trace.tracks r.entries r.out r.out_then r.out_faults r.out_faults_then r.status → ToldAt r n
-    by (whole st run) = absurd (omega (arith, is, least, at_most_one (last_state x.trace.tracks r.entries) r.status st))
-    by (cut st rose was) = absurd (five (sym is ∙ st))
-    by (ran_out st was) = absurd (six (sym is ∙ st))
+    by : Ending x.trace.tracks r.entries r.out r.out_then r.out_faults r.out_faults_then r.status (raw_shaped r.raw) r.raw_then → ToldAt r n
+    by (whole st run served) = absurd (omega (arith, is, least, at_most_one (last_state x.trace.tracks r.entries) r.status st))
+    by (cut st rose was served) = absurd (five (sym is ∙ st))
+    by (ran_out st was served) = absurd (six (sym is ∙ st))
 told_at r n (told refusal st t) is least five six = record { refusal = refusal; status_is = sym is ∙ st; was = t }
 told_at r n (untold refusal st t) is least five six = absurd (five (sym is ∙ st))
 told_at r n (never_began st t) is least five six = absurd (six (sym is ∙ st))
@@ -163,29 +169,29 @@ pub nothing_is : (r : Run) → Ended r → IsRefusal r.status → DidNothing r.o
 nothing_is r e h = let n = refusal_range r.status h in (told_at r r.status e refl n.0 n.1 n.2).was.nothing
 
 pub write_fault_is : (r : Run) → Ended r → r.status ≡ 5
-    → (Rose r.out_faults r.out_faults_then × Keeps r.err r.err_then × IsCutOff r.words r.left r.left_then r.out r.out_then r.entries)
+    → (Rose r.out_faults r.out_faults_then × Keeps r.err r.err_then × IsCutOff r.words r.left r.left_then r.out r.out_then r.entries r.raw r.raw_then)
     ⊎ (Rose r.err_faults r.err_faults_then × DidNothing r.out r.out_then r.entries × IsUntold r.words r.left r.left_then r.read_faults r.read_faults_then r.err r.err_then)
 write_fault_is r (ran x) is = by x.ending
   where
-    by : Ending x.trace.tracks r.entries r.out r.out_then r.out_faults r.out_faults_then r.status
-        → (Rose r.out_faults r.out_faults_then × Keeps r.err r.err_then × IsCutOff r.words r.left r.left_then r.out r.out_then r.entries)
+    by : Ending x.trace.tracks r.entries r.out r.out_then r.out_faults r.out_faults_then r.status (raw_shaped r.raw) r.raw_then
+        → (Rose r.out_faults r.out_faults_then × Keeps r.err r.err_then × IsCutOff r.words r.left r.left_then r.out r.out_then r.entries r.raw r.raw_then)
         ⊎ (Rose r.err_faults r.err_faults_then × DidNothing r.out r.out_then r.entries × IsUntold r.words r.left r.left_then r.read_faults r.read_faults_then r.err r.err_then)
-    by (whole st run) = absurd (omega (arith, is, at_most_one (last_state x.trace.tracks r.entries) r.status st))
-    by (cut st rose was) = inl (rose, x.quiet, record { trace = x.trace; accepted = x.accepted; run = was })
-    by (ran_out st was) = absurd (omega (arith, is, st))
+    by (whole st run served) = absurd (omega (arith, is, at_most_one (last_state x.trace.tracks r.entries) r.status st))
+    by (cut st rose was served) = inl (rose, x.quiet, record { trace = x.trace; accepted = x.accepted; run = was; served = served })
+    by (ran_out st was served) = absurd (omega (arith, is, st))
 write_fault_is r (told refusal st t) is = absurd ((status_no_fault refusal).0 (sym st ∙ is))
 write_fault_is r (untold refusal st u) is = inr (u.rose, u.nothing, record { refusal = refusal; cause = u.cause; front = u.front })
 write_fault_is r (never_began st t) is = absurd (omega (arith, is, st))
 
 pub no_memory_is : (r : Run) → Ended r → r.status ≡ 6
-    → AsksReplay r.words × Keeps r.err r.err_then × (DidNothing r.out r.out_then r.entries ⊎ IsBrokenOff r.words r.left r.left_then r.out r.out_then r.entries)
+    → AsksReplay r.words × Keeps r.err r.err_then × (DidNothing r.out r.out_then r.entries ⊎ IsBrokenOff r.words r.left r.left_then r.out r.out_then r.entries r.raw r.raw_then)
 no_memory_is r (ran x) is = by x.ending
   where
-    by : Ending x.trace.tracks r.entries r.out r.out_then r.out_faults r.out_faults_then r.status
-        → AsksReplay r.words × Keeps r.err r.err_then × (DidNothing r.out r.out_then r.entries ⊎ IsBrokenOff r.words r.left r.left_then r.out r.out_then r.entries)
-    by (whole st run) = absurd (omega (arith, is, at_most_one (last_state x.trace.tracks r.entries) r.status st))
-    by (cut st rose was) = absurd (omega (arith, is, st))
-    by (ran_out st was) = (x.accepted.asked, x.quiet, inr (record { trace = x.trace; accepted = x.accepted; run = was }))
+    by : Ending x.trace.tracks r.entries r.out r.out_then r.out_faults r.out_faults_then r.status (raw_shaped r.raw) r.raw_then
+        → AsksReplay r.words × Keeps r.err r.err_then × (DidNothing r.out r.out_then r.entries ⊎ IsBrokenOff r.words r.left r.left_then r.out r.out_then r.entries r.raw r.raw_then)
+    by (whole st run served) = absurd (omega (arith, is, at_most_one (last_state x.trace.tracks r.entries) r.status st))
+    by (cut st rose was served) = absurd (omega (arith, is, st))
+    by (ran_out st was served) = (x.accepted.asked, x.quiet, inr (record { trace = x.trace; accepted = x.accepted; run = was; served = served }))
 no_memory_is r (told refusal st t) is = absurd ((status_no_fault refusal).1 (sym st ∙ is))
 no_memory_is r (untold refusal st u) is = absurd (omega (arith, is, st))
 no_memory_is r (never_began st t) is = (t.asked, t.quiet, inl t.nothing)
@@ -193,13 +199,44 @@ no_memory_is r (never_began st t) is = (t.asked, t.quiet, inl t.nothing)
 pub known_is : (r : Run) → Ended r → r.status ≤ 7
 known_is r (ran x) = by x.ending
   where
-    by : Ending x.trace.tracks r.entries r.out r.out_then r.out_faults r.out_faults_then r.status → r.status ≤ 7
-    by (whole st run) = omega (arith, at_most_one (last_state x.trace.tracks r.entries) r.status st)
-    by (cut st rose was) = omega (arith, st)
-    by (ran_out st was) = omega (arith, st)
+    by : Ending x.trace.tracks r.entries r.out r.out_then r.out_faults r.out_faults_then r.status (raw_shaped r.raw) r.raw_then → r.status ≤ 7
+    by (whole st run served) = omega (arith, at_most_one (last_state x.trace.tracks r.entries) r.status st)
+    by (cut st rose was served) = omega (arith, st)
+    by (ran_out st was served) = omega (arith, st)
 known_is r (told refusal st t) = omega (arith, st, (status_no_fault refusal).2)
 known_is r (untold refusal st u) = omega (arith, st)
 known_is r (never_began st t) = omega (arith, st)
+
+-- ---- the sources
+
+pub alone_is : (r : Run) → Ended r → IsRefusal r.status → (r.arenas_then ≡ r.arenas) × (r.raw_then ≡ r.raw)
+alone_is r e h = let n = refusal_range r.status h in let a = (told_at r r.status e refl n.0 n.1 n.2).was.alone in (a.arenas_same, a.raw_same)
+
+pub idle_is : (r : Run) → Ended r → (r.arenas_then ≡ r.arenas) ⊎ (r.arenas_then ≡ arenas_shaped r.arenas)
+idle_is r (ran x) = inr x.idle
+idle_is r (told refusal st t) = inl t.alone.arenas_same
+idle_is r (untold refusal st u) = inl u.alone.arenas_same
+idle_is r (never_began st t) = inl t.alone.arenas_same
+
+pub shaped_is : (r : Run) → Ended r → r.status ≤ 1 → r.arenas_then ≡ arenas_shaped r.arenas
+shaped_is r (ran x) h = x.idle
+shaped_is r (told refusal st t) h = absurd (omega (arith, st, h, status_least refusal))
+shaped_is r (untold refusal st t) h = absurd (omega (arith, st, h))
+shaped_is r (never_began st t) h = absurd (omega (arith, st, h))
+
+-- nothing is out of the arena source, which is asked for nothing, and nothing of the raw source
+pub back_is : (r : Run) → Ended r → r.arenas.out ≡ [] → r.raw.out ≡ [] → (r.arenas_then.out ≡ []) × (r.raw_then.out ≡ [])
+back_is r e none none_raw = (arenas_back (idle_is r e), raw_back e)
+  where
+    arenas_back : (r.arenas_then ≡ r.arenas) ⊎ (r.arenas_then ≡ arenas_shaped r.arenas) → r.arenas_then.out ≡ []
+    arenas_back (inl same) = ap (λ (s : SourceView ArenaShape). s.out) same ∙ none
+    arenas_back (inr shaped) = ap (λ (s : SourceView ArenaShape). s.out) shaped ∙ none
+
+    raw_back : Ended r → r.raw_then.out ≡ []
+    raw_back (ran x) = x.back
+    raw_back (told refusal st t) = ap (λ (s : SourceView ℕ). s.out) t.alone.raw_same ∙ none_raw
+    raw_back (untold refusal st u) = ap (λ (s : SourceView ℕ). s.out) u.alone.raw_same ∙ none_raw
+    raw_back (never_began st t) = ap (λ (s : SourceView ℕ). s.out) t.alone.raw_same ∙ none_raw
 
 -- ---- where a refusal must come, and where a replay must
 
@@ -285,10 +322,10 @@ module _ (r : Run) (e : Ended r) (asks : AsksReplay r.words) where
     pub complete_is : (Rose r.out_faults r.out_faults_then → ⊥) → (Rose r.err_faults r.err_faults_then → ⊥) → ReplaysSpelt r.left r.status
     complete_is writes tells = by r.left refl
       where
-        ends : (x : Ran r) → Ending x.trace.tracks r.entries r.out r.out_then r.out_faults r.out_faults_then r.status → (r.status ≡ 0) ⊎ (r.status ≡ 1) ⊎ (r.status ≡ 6)
-        ends x (whole st run) = elim (in_two (last_state x.trace.tracks r.entries) r.status st) [ inl z ↦ inl z | inr o ↦ inr (inl o) ]
-        ends x (cut st rose was) = absurd (writes rose)
-        ends x (ran_out st was) = inr (inr st)
+        ends : (x : Ran r) → Ending x.trace.tracks r.entries r.out r.out_then r.out_faults r.out_faults_then r.status (raw_shaped r.raw) r.raw_then → (r.status ≡ 0) ⊎ (r.status ≡ 1) ⊎ (r.status ≡ 6)
+        ends x (whole st run served) = elim (in_two (last_state x.trace.tracks r.entries) r.status st) [ inl z ↦ inl z | inr o ↦ inr (inl o) ]
+        ends x (cut st rose was served) = absurd (writes rose)
+        ends x (ran_out st was served) = inr (inr st)
 
         on : (bytes : List ℕ) → r.left ≡ Some bytes → length bytes ≤ max_input → (trace : PlainTrace) → IsWellFormed trace → bytes ≡ spelling trace → (x : Ended r) → (r.status ≡ 0) ⊎ (r.status ≡ 1) ⊎ (r.status ≡ 6)
         on bytes is few trace well spelt (ran x) = ends x x.ending

@@ -2,3 +2,4 @@ pub mod EndLemmas
 pub mod Joins
 pub mod Kept
 pub mod RunLemmas
+pub mod ServedLaws

@@ -9,10 +9,12 @@ use Rattle.replay_tool.specs.declared.refusal.Refusal.{Refusal}
 use Rattle.replay_tool.specs.declared.refusal.Refusal.TheVariants.{Usage}
 use Rattle.replay_tool.specs.Words.{AsksReplay}
 use Rattle.replay_tool.specs.Input.{IsRead}
+use Rattle.sources.specs.Source.{ArenaShape, SourceView}
 use Rattle.replay_tool.specs.Events.{Ending}
+use Rattle.replay_tool.specs.Served.{arenas_shaped, raw_shaped}
 use Rattle.replay_tool.specs.Refusals.{status_of, line_of, IsCause}
 
--- the words, the three streams before and after a run with their counts of faults, and its outcome
+-- the words, the three streams before and after a run with their counts of faults, the two sources, and the run's outcome
 pub record Run : Type 0 where
   pub words : List (List ℕ)
   -- what is left in the input
@@ -30,6 +32,11 @@ pub record Run : Type 0 where
   pub err_then : Option (List ℕ)
   pub err_faults : ℕ
   pub err_faults_then : ℕ
+  -- the sources of memory
+  pub arenas : SourceView ArenaShape
+  pub arenas_then : SourceView ArenaShape
+  pub raw : SourceView ℕ
+  pub raw_then : SourceView ℕ
   pub status : ℕ
   pub entries : List Entry
 
@@ -43,11 +50,17 @@ pub record DidNothing (before now : Option (List ℕ)) (es : List Entry) : Type 
   pub none : es ≡ []
   pub out : Keeps before now
 
+-- no source was asked for anything, not for a shape either
+pub record LeftAlone (r : Run) : Type 0 where
+  pub arenas_same : r.arenas_then ≡ r.arenas
+  pub raw_same : r.raw_then ≡ r.raw
+
 -- the run was refused, and the line that tells it was written
 pub record Told (r : Run) (refusal : Refusal) : Type 0 where
   pub cause : IsCause refusal r.words r.left r.left_then r.read_faults r.read_faults_then
   pub line : Appends r.err r.err_then (line_of refusal)
   pub nothing : DidNothing r.out r.out_then r.entries
+  pub alone : LeftAlone r
 
 -- the run was refused, and writing the line that tells it failed
 pub record Untold (r : Run) (refusal : Refusal) : Type 0 where
@@ -55,18 +68,22 @@ pub record Untold (r : Run) (refusal : Refusal) : Type 0 where
   pub rose : Rose r.err_faults r.err_faults_then
   pub front : WroteFront r.err r.err_then (line_of refusal)
   pub nothing : DidNothing r.out r.out_then r.entries
+  pub alone : LeftAlone r
 
 -- the trace was accepted, its replay ended in this way, and nothing was written to the error output
 pub record Ran (r : Run) : Type 0 where
   pub trace : PlainTrace
   pub accepted : Accepted r.words r.left r.left_then trace
-  pub ending : Ending trace.tracks r.entries r.out r.out_then r.out_faults r.out_faults_then r.status
+  pub ending : Ending trace.tracks r.entries r.out r.out_then r.out_faults r.out_faults_then r.status (raw_shaped r.raw) r.raw_then
+  pub idle : r.arenas_then ≡ arenas_shaped r.arenas
+  pub back : r.raw_then.out ≡ []
   pub quiet : Keeps r.err r.err_then
 
 -- memory ran out before the replay
 pub record NeverBegan (r : Run) : Type 0 where
   pub asked : AsksReplay r.words
   pub nothing : DidNothing r.out r.out_then r.entries
+  pub alone : LeftAlone r
   pub quiet : Keeps r.err r.err_then
 
 -- the ways in which a run may end

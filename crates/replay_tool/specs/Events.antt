@@ -10,8 +10,11 @@ use Rattle.trace_model.specs.Plain.{PlainTrack, plain}
 use Rattle.event_model.specs.Events.{action_after}
 use Rattle.event_model.specs.History.{IsNext, IsLegal, IsWhole, last_state}
 use Rattle.report_model.specs.Report.{lines_for, event_text, events_text, summary_text, report, status_in}
+use Rattle.sources.specs.Source.{SourceView}
+use Rattle.machine_core.specs.Acts.{Fails}
 use Rattle.machine_core.specs.Reply.{plain_reply}
-use Rattle.machine_core.specs.View.{MachineView, tracks_of, state_of}
+use Rattle.machine_core.specs.View.{MachineView, Requests, tracks_of, state_of}
+use Rattle.replay_tool.specs.Served.{Served, ServedNearly}
 
 -- the text of a step with that number, by the operation that its entry names
 abbrev pub step_text : Trace → ℕ → Step → List ℕ
@@ -21,29 +24,35 @@ step_text trace number step =
 
 -- ---- one event
 
--- the machine has done one more event
-pub record OneMore (old new : MachineView) : Type 0 where
+-- the machine has done one more event, for which the raw source went from raw to raw_then
+pub record OneMore (old new : MachineView) (raw raw_then : SourceView ℕ) : Type 0 where
   pub entry : Entry
   pub next : IsNext (tracks_of old) (state_of old) entry
-  pub grows : new ≡ record { trace = old.trace; entries = old.entries ++ entry ∷ [] }
+  pub same : new.trace ≡ old.trace
+  pub grows : new.entries ≡ old.entries ++ entry ∷ []
+  pub requests : Requests old.trace old.entries entry old.held new.held raw raw_then
+
+-- memory ran out in the event, and then nothing was done, or after it
+abbrev pub Stopped : MachineView → MachineView → SourceView ℕ → SourceView ℕ → Type 0
+Stopped old new raw raw_then = ((new ≡ old) × Fails old.held raw raw_then) ⊎ OneMore old new raw raw_then
 
 -- the text of the event that a machine did from there
 abbrev pub text_from : MachineView → Entry → List ℕ
 text_from old entry = event_text (tracks_of old) (length old.entries + 1) (state_of old) entry
 
 -- one more event was done, and this is its text
-pub record DidEvent (old new : MachineView) (text : List ℕ) : Type 0 where
-  pub more : OneMore old new
+pub record DidEvent (old new : MachineView) (raw raw_then : SourceView ℕ) (text : List ℕ) : Type 0 where
+  pub more : OneMore old new raw raw_then
   pub text_is : text ≡ text_from old more.entry
 
 -- one more event was done, and its text was written
-pub record WroteEvent (old new : MachineView) (before now : Option (List ℕ)) : Type 0 where
-  pub more : OneMore old new
+pub record WroteEvent (old new : MachineView) (raw raw_then : SourceView ℕ) (before now : Option (List ℕ)) : Type 0 where
+  pub more : OneMore old new raw raw_then
   pub text : Appends before now (text_from old more.entry)
 
 -- one more event was done, and a front of its text was written
-pub record CutEvent (old new : MachineView) (before now : Option (List ℕ)) : Type 0 where
-  pub more : OneMore old new
+pub record CutEvent (old new : MachineView) (raw raw_then : SourceView ℕ) (before now : Option (List ℕ)) : Type 0 where
+  pub more : OneMore old new raw raw_then
   pub front : WroteFront before now (text_from old more.entry)
 
 -- ---- a run of events
@@ -87,8 +96,8 @@ pub record RanOut (tracks : List PlainTrack) (es : List Entry) (before now : Opt
   pub legal : IsLegal tracks es
   pub some : WroteSome tracks es before now
 
--- the ways in which a replay may end, by its status
-pub data Ending (tracks : List PlainTrack) (es : List Entry) (before now : Option (List ℕ)) (faults faults_then status : ℕ) : Type 0 where
-  whole : status ≡ status_in (last_state tracks es) → RanWhole tracks es before now → Ending tracks es before now faults faults_then status
-  cut : status ≡ 5 → Rose faults faults_then → WasCut tracks es before now → Ending tracks es before now faults faults_then status
-  ran_out : status ≡ 6 → RanOut tracks es before now → Ending tracks es before now faults faults_then status
+-- the ways in which a replay may end, by its status, and what the raw source did
+pub data Ending (tracks : List PlainTrack) (es : List Entry) (before now : Option (List ℕ)) (faults faults_then status : ℕ) (raw raw_then : SourceView ℕ) : Type 0 where
+  whole : status ≡ status_in (last_state tracks es) → RanWhole tracks es before now → Served tracks es raw raw_then → Ending tracks es before now faults faults_then status raw raw_then
+  cut : status ≡ 5 → Rose faults faults_then → WasCut tracks es before now → Served tracks es raw raw_then → Ending tracks es before now faults faults_then status raw raw_then
+  ran_out : status ≡ 6 → RanOut tracks es before now → ServedNearly tracks es raw raw_then → Ending tracks es before now faults faults_then status raw raw_then

@@ -1,4 +1,4 @@
-ghost use Rattle.std.specs.Prelude.{◌≡◌, ◌⊎◌, ◌≤◌, ℕ, []};
+ghost use Rattle.std.specs.Prelude.{◌≡◌, ◌⊎◌, ◌<◌, ◌≤◌, ◌^◌, ℕ, []};
 ghost use Rattle.std.specs.Io.KnownBytes.{Keeps};
 ghost use Rattle.streams.specs.Faults.{Rose};
 ghost use Rattle.streams.specs.Moves.{IsToldPast};
@@ -8,6 +8,7 @@ ghost use Rattle.replay_tool.specs.Events.{Ending};
 ghost use Rattle.replay_tool.specs.Ended.{Ended, Refusing, DidNothing};
 ghost use Rattle.replay_tool.specs.Outcome.{Cause, IsReplayed, IsTold, IsRefusal, IsCutOff, IsUntold, IsBrokenOff, IsOrYields, RefusesFaulty, RefusesTooMany, ReplaysSpelt};
 ghost use Rattle.replay_tool.specs.Refusals.{max_input};
+ghost use Rattle.replay_tool.specs.Served.{arenas_shaped, raw_shaped};
 ghost use Rattle.replay_tool.specs.Words.{texts_of, AsksReplay};
 
 use crate::events::{Halt, status_of, write_report};
@@ -15,7 +16,9 @@ use crate::input::{Unread, read_input};
 use crate::refusal::{Refusal, Telling};
 use crate::words::asks_replay;
 use machine_core::Machine;
+use mem_base::limits::{DEFAULT_ARENAS, MAX_RAW_BYTES};
 use mem_base::{History, List, Trace};
+use sources::{ArenaSource, RawSource};
 use std::alloc::Global;
 use streams::{Sink, Source};
 
@@ -43,23 +46,35 @@ fn no_events(alloc: Global, status: u8) -> Outcome
     }
 }
 
-// Replays the trace and writes its report.
-fn replay<O: Sink>(alloc: Global, trace: Trace, out: &mut O) -> Outcome
-    requires { IsKnownTrace trace }
-    ensures { Ending (plain trace).tracks result.history.entries (O.written out.old) (O.written out.new)
-        (O.faults out.old) (O.faults out.new) result.status }
+// Replays the trace and writes its report. All memory that the sources gave goes back.
+fn replay<A: ArenaSource, R: RawSource, O: Sink>(
+    alloc: Global,
+    trace: Trace,
+    arenas: &mut A,
+    raw: &mut R,
+    out: &mut O,
+) -> Outcome
+    requires known { IsKnownTrace trace }
+    requires count { (R.seen raw.old).asked < 2 ^ 62 }
+    requires none_out { (R.seen raw.old).out ≡ [] }
+    ensures ending { Ending (plain trace).tracks result.history.entries (O.written out.old) (O.written out.new)
+        (O.faults out.old) (O.faults out.new) result.status (raw_shaped (R.seen raw.old)) (R.seen raw.new) }
+    ensures back { (R.seen raw.new).out ≡ [] }
+    ensures idle { A.seen arenas.new ≡ arenas_shaped (A.seen arenas.old) }
 {
+    arenas.shape(DEFAULT_ARENAS, 0);
+    raw.shape(MAX_RAW_BYTES);
     let Ok(mut machine) = Machine::new(alloc, trace) else {
         return no_events(alloc, OUT_OF_MEMORY);
     };
-    let status = match write_report(alloc, &mut machine, out) {
+    let status = match write_report(alloc, &mut machine, arenas, raw, out) {
         Ok(()) => status_of(&machine),
         Err(Halt::WriteFault) => WRITE_FAULT,
         Err(Halt::OutOfMemory) => OUT_OF_MEMORY,
     };
     Outcome {
         status,
-        history: machine.end(),
+        history: machine.end(arenas, raw),
     }
 }
 
@@ -76,13 +91,17 @@ fn refuse<E: Sink>(alloc: Global, refusal: Refusal, err: &mut E) -> Outcome
 }
 
 // The whole run, by the ways in which it may end.
-fn run_words<I: Source, O: Sink, E: Sink>(
+fn run_words<I: Source, A: ArenaSource, R: RawSource, O: Sink, E: Sink>(
     alloc: Global,
     words: &[String],
     input: &mut I,
+    arenas: &mut A,
+    raw: &mut R,
     out: &mut O,
     err: &mut E,
 ) -> Outcome
+    requires count { (R.seen raw.old).asked < 2 ^ 62 }
+    requires none_out { (R.seen raw.old).out ≡ [] }
     ensures { Ended (record {
       words = texts_of words.now;
       left = I.left input.old;
@@ -97,6 +116,10 @@ fn run_words<I: Source, O: Sink, E: Sink>(
       err_then = E.written err.new;
       err_faults = E.faults err.old;
       err_faults_then = E.faults err.new;
+      arenas = A.seen arenas.old;
+      arenas_then = A.seen arenas.new;
+      raw = R.seen raw.old;
+      raw_then = R.seen raw.new;
       status = result.status;
       entries = result.history.entries;
     }) }
@@ -105,29 +128,38 @@ fn run_words<I: Source, O: Sink, E: Sink>(
         return refuse(alloc, Refusal::Usage, err);
     }
     match read_input(alloc, input) {
-        Ok(trace) => replay(alloc, trace, out),
+        Ok(trace) => replay(alloc, trace, arenas, raw, out),
         Err(Unread::Refused(refusal)) => refuse(alloc, refusal, err),
         Err(Unread::OutOfMemory) => no_events(alloc, OUT_OF_MEMORY),
     }
 }
 
-/// Does what the words ask: for now `replay` alone, which reads a trace from the input, replays it,
-/// and writes the report of it.
+/// Does what the words ask: for now `replay` alone, which reads a trace from the input, replays it
+/// over memory of the sources, and writes the report of it.
+///
+/// Before the replay the sources are told how much there may be: 256 arenas and 268,435,456 raw
+/// bytes. When `run` returns, all that they gave has gone back. The requests that they refused are
+/// answered with null in the report.
 ///
 /// The status is 0 where the trace was replayed without a fault and 1 where its last event is one;
 /// 2 for other words; 3 for an input that is no trace; 4 for a failed read and 5 for a failed write;
 /// 6 where memory ran out; 7 for an input of more than 16,777,216 bytes. With 2, 3, 4 and 7 one line
 /// on `err` tells it. The history holds the events that were done.
-pub fn run<I: Source, O: Sink, E: Sink>(
+pub fn run<I: Source, A: ArenaSource, R: RawSource, O: Sink, E: Sink>(
     alloc: Global,
     words: &[String],
     input: &mut I,
+    arenas: &mut A,
+    raw: &mut R,
     out: &mut O,
     err: &mut E,
 ) -> Outcome
+    requires count { ((A.seen arenas.old).asked < 2 ^ 62) × ((R.seen raw.old).asked < 2 ^ 62) }
+    requires none_out { ((A.seen arenas.old).out ≡ []) × ((R.seen raw.old).out ≡ []) }
+
     // 0 and 1: the report of a legal and whole history of the trace was written, and nothing else.
     ensures replayed { result.status ≤ 1 → IsReplayed (texts_of words.now) (I.left input.old) (I.left input.new)
-        (O.written out.old) (O.written out.new) result.history.entries result.status }
+        (O.written out.old) (O.written out.new) result.history.entries result.status (R.seen raw.old) (R.seen raw.new) }
     ensures quiet { result.status ≤ 1 → Keeps (E.written err.old) (E.written err.new) }
 
     // 2, 3, 4 and 7: why, and the line that tells it.
@@ -144,7 +176,7 @@ pub fn run<I: Source, O: Sink, E: Sink>(
     // 5: a sink's fault, in the report or in the line of a refusal.
     ensures write_fault { result.status ≡ 5 →
         (Rose (O.faults out.old) (O.faults out.new) × Keeps (E.written err.old) (E.written err.new)
-        × IsCutOff (texts_of words.now) (I.left input.old) (I.left input.new) (O.written out.old) (O.written out.new) result.history.entries)
+        × IsCutOff (texts_of words.now) (I.left input.old) (I.left input.new) (O.written out.old) (O.written out.new) result.history.entries (R.seen raw.old) (R.seen raw.new))
         ⊎ (Rose (E.faults err.old) (E.faults err.new)
         × DidNothing (O.written out.old) (O.written out.new) result.history.entries
         × IsUntold (texts_of words.now) (I.left input.old) (I.left input.new) (I.faults input.old) (I.faults input.new) (E.written err.old) (E.written err.new)) }
@@ -152,7 +184,13 @@ pub fn run<I: Source, O: Sink, E: Sink>(
     // 6: what was written is a front of the report.
     ensures no_memory { result.status ≡ 6 → AsksReplay (texts_of words.now) × Keeps (E.written err.old) (E.written err.new)
         × (DidNothing (O.written out.old) (O.written out.new) result.history.entries
-        ⊎ IsBrokenOff (texts_of words.now) (I.left input.old) (I.left input.new) (O.written out.old) (O.written out.new) result.history.entries) }
+        ⊎ IsBrokenOff (texts_of words.now) (I.left input.old) (I.left input.new) (O.written out.old) (O.written out.new) result.history.entries (R.seen raw.old) (R.seen raw.new)) }
+
+    // Whatever the status, nothing is out; and a run that did no event left the sources alone.
+    ensures back { ((A.seen arenas.new).out ≡ []) × ((R.seen raw.new).out ≡ []) }
+    ensures idle { (A.seen arenas.new ≡ A.seen arenas.old) ⊎ (A.seen arenas.new ≡ arenas_shaped (A.seen arenas.old)) }
+    ensures shaped { result.status ≤ 1 → A.seen arenas.new ≡ arenas_shaped (A.seen arenas.old) }
+    ensures alone { IsRefusal result.status → (A.seen arenas.new ≡ A.seen arenas.old) × (R.seen raw.new ≡ R.seen raw.old) }
 
     // There is no other status.
     ensures known { result.status ≤ 7 }
@@ -169,5 +207,5 @@ pub fn run<I: Source, O: Sink, E: Sink>(
         → ¬ Rose (O.faults out.old) (O.faults out.new) → ¬ Rose (E.faults err.old) (E.faults err.new)
         → ReplaysSpelt (I.left input.old) result.status }
 {
-    run_words(alloc, words, input, out, err)
+    run_words(alloc, words, input, arenas, raw, out, err)
 }

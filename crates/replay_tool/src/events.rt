@@ -1,4 +1,4 @@
-ghost use Rattle.std.specs.Prelude.{◌≡◌, ◌≤◌, ◌⊎◌, ◌++◌, [], true, false, OnOk, OnErr, IfSome, IfNone, IsErrOf, IsSome};
+ghost use Rattle.std.specs.Prelude.{◌≡◌, ◌<◌, ◌≤◌, ◌^◌, ◌++◌, [], true, false, OnOk, OnErr, IfSome, IfNone, IsErrOf, IsSome};
 ghost use Rattle.std.specs.Io.KnownBytes.{Appends, Keeps};
 ghost use Rattle.streams.specs.Faults.{Rose};
 ghost use Rattle.streams.specs.Moves.{WroteFront};
@@ -8,11 +8,15 @@ ghost use Rattle.event_model.specs.Events.{is_ready};
 ghost use Rattle.event_model.specs.History.{IsWhole};
 ghost use Rattle.report_model.specs.Report.{owner_word, status_in, summary_text};
 ghost use Rattle.machine_core.specs.View.{tracks_of, state_of};
-ghost use Rattle.replay_tool.specs.Events.{step_text, OneMore, DidEvent, WroteEvent, CutEvent, RanWhole, WasCut, RanOut};
+ghost use Rattle.extents.specs.Sums.{AllIn};
+ghost use Rattle.sources.specs.Holder.{Traded};
+ghost use Rattle.replay_tool.specs.Events.{step_text, Stopped, DidEvent, WroteEvent, CutEvent, RanWhole, WasCut, RanOut};
+ghost use Rattle.replay_tool.specs.Served.{Served, ServedNearly};
 
 use crate::report::{push_event, push_summary};
 use machine_core::Machine;
 use mem_base::{Step, Trace, TrackId};
+use sources::{ArenaSource, RawSource};
 use std::alloc::{AllocError, Global};
 use streams::{Sink, write_all};
 
@@ -55,35 +59,49 @@ fn push_step(trace: &Trace, number: u64, step: &Step, text: &mut Vec<u8>) -> Res
 }
 
 // Does one event, and puts its text in place of what the buffer held.
-fn do_event(machine: &mut Machine, t: TrackId, text: &mut Vec<u8>) -> Result<(), AllocError>
+fn do_event<A: ArenaSource, R: RawSource>(
+    machine: &mut Machine,
+    t: TrackId,
+    arenas: &mut A,
+    raws: &mut R,
+    text: &mut Vec<u8>,
+) -> Result<(), AllocError>
     requires ready { is_ready (tracks_of machine.old) (state_of machine.old) t ≡ true }
     requires no_fault { (state_of machine.old).faulted ≡ false }
-    ensures did { OnOk result (DidEvent machine.old machine.new text.new.items) }
-    ensures err { OnErr result ((machine.new ≡ machine.old) ⊎ OneMore machine.old machine.new) }
+    requires count { (R.seen raws.old).asked < 2 ^ 63 }
+    requires held { AllIn machine.old.held (R.seen raws.old).out }
+    ensures did { OnOk result (DidEvent machine.old machine.new (R.seen raws.old) (R.seen raws.new) text.new.items) }
+    ensures err { OnErr result (Stopped machine.old machine.new (R.seen raws.old) (R.seen raws.new)) }
+    ensures arenas { A.seen arenas.new ≡ A.seen arenas.old }
 {
-    let step = machine.step(t)?;
+    let step = machine.step(t, arenas, raws)?;
     let number = machine.history().entries.len() as u64;
     text.clear();
     push_step(machine.trace(), number, &step, text)
 }
 
 // Does one event, and writes its text.
-fn one_event<O: Sink>(
+fn one_event<A: ArenaSource, R: RawSource, O: Sink>(
     machine: &mut Machine,
     t: TrackId,
+    arenas: &mut A,
+    raws: &mut R,
     text: &mut Vec<u8>,
     out: &mut O,
 ) -> Result<(), Halt>
     requires ready { is_ready (tracks_of machine.old) (state_of machine.old) t ≡ true }
     requires no_fault { (state_of machine.old).faulted ≡ false }
-    ensures wrote { OnOk result (WroteEvent machine.old machine.new (O.written out.old) (O.written out.new)) }
-    ensures cut { IsErrOf result Halt.WriteFault → CutEvent machine.old machine.new (O.written out.old) (O.written out.new) }
+    requires count { (R.seen raws.old).asked < 2 ^ 63 }
+    requires held { AllIn machine.old.held (R.seen raws.old).out }
+    ensures wrote { OnOk result (WroteEvent machine.old machine.new (R.seen raws.old) (R.seen raws.new) (O.written out.old) (O.written out.new)) }
+    ensures cut { IsErrOf result Halt.WriteFault → CutEvent machine.old machine.new (R.seen raws.old) (R.seen raws.new) (O.written out.old) (O.written out.new) }
     ensures cause { IsErrOf result Halt.WriteFault → Rose (O.faults out.old) (O.faults out.new) }
-    ensures memory { IsErrOf result Halt.OutOfMemory → (machine.new ≡ machine.old) ⊎ OneMore machine.old machine.new }
+    ensures memory { IsErrOf result Halt.OutOfMemory → Stopped machine.old machine.new (R.seen raws.old) (R.seen raws.new) }
     ensures kept { IsErrOf result Halt.OutOfMemory → Keeps (O.written out.old) (O.written out.new) }
     ensures later { O.faults out.old ≤ O.faults out.new }
+    ensures arenas { A.seen arenas.new ≡ A.seen arenas.old }
 {
-    match do_event(machine, t, text) {
+    match do_event(machine, t, arenas, raws, text) {
         Ok(()) => write_text(out, text.as_slice()),
         Err(_) => Err(Halt::OutOfMemory),
     }
@@ -143,17 +161,32 @@ fn write_summary<O: Sink>(machine: &Machine, text: &mut Vec<u8>, out: &mut O) ->
 
 /// Replays the whole trace, and writes the text of each event before the next event is done, and
 /// then the summary.
-pub fn write_report<O: Sink>(alloc: Global, machine: &mut Machine, out: &mut O) -> Result<(), Halt>
-    requires { machine.old.entries ≡ [] }
+pub fn write_report<A: ArenaSource, R: RawSource, O: Sink>(
+    alloc: Global,
+    machine: &mut Machine,
+    arenas: &mut A,
+    raws: &mut R,
+    out: &mut O,
+) -> Result<(), Halt>
+    requires start { machine.old.entries ≡ [] }
+    requires count { (R.seen raws.old).asked < 2 ^ 62 }
+    requires held { AllIn machine.old.held (R.seen raws.old).out }
     ensures trace { machine.new.trace ≡ machine.old.trace }
     ensures whole { OnOk result (RanWhole (tracks_of machine.new) machine.new.entries (O.written out.old) (O.written out.new)) }
     ensures cut { IsErrOf result Halt.WriteFault → WasCut (tracks_of machine.new) machine.new.entries (O.written out.old) (O.written out.new) }
     ensures cause { IsErrOf result Halt.WriteFault → Rose (O.faults out.old) (O.faults out.new) }
     ensures memory { IsErrOf result Halt.OutOfMemory → RanOut (tracks_of machine.new) machine.new.entries (O.written out.old) (O.written out.new) }
+    ensures served { OnOk result (Served (tracks_of machine.new) machine.new.entries (R.seen raws.old) (R.seen raws.new)) }
+    ensures served_cut { IsErrOf result Halt.WriteFault → Served (tracks_of machine.new) machine.new.entries (R.seen raws.old) (R.seen raws.new) }
+    ensures nearly { IsErrOf result Halt.OutOfMemory → ServedNearly (tracks_of machine.new) machine.new.entries (R.seen raws.old) (R.seen raws.new) }
+    ensures traded { Traded machine.old.held machine.new.held (R.seen raws.old) (R.seen raws.new) }
+    ensures arenas { A.seen arenas.new ≡ A.seen arenas.old }
 {
+    // The trace has few operations, so the source can be asked once for each.
+    let _trace = machine.trace();
     let mut text = Vec::new(alloc);
     while let Some(t) = next_track(machine) {
-        match one_event(machine, t, &mut text, out) {
+        match one_event(machine, t, arenas, raws, &mut text, out) {
             Ok(()) => {}
             Err(halt) => return Err(halt),
         }

@@ -1,13 +1,13 @@
 ghost use Rattle.std.specs.Prelude.{◌≡◌, ◌++◌, ◌∷◌, [], ◌<◌, length, OnOk, decimal};
 ghost use Rattle.std.specs.Fmt.{signed_decimal};
-ghost use Rattle.trace_model.specs.Plain.{action_of, text_at};
+ghost use Rattle.trace_model.specs.Plain.{action_of, text_at, refuse};
 ghost use Rattle.trace_model.specs.Known.{IsKnown, IsKnownOp};
-ghost use Rattle.trace_model.specs.Spelling.{line_of, hex_word, letter_word, blank, glyph};
+ghost use Rattle.trace_model.specs.Spelling.{line_of, hex_word, letter_word, side_word, blank, glyph};
 ghost use Rattle.report_model.specs.Report.{reply_word, event_line, event_lines, fault_line, block_line, head_line, tail_line, more_lines, block_name, summary_lines, events_line, lock_line, blocks_line, arenas_line, traced_line};
 ghost use Rattle.machine_core.specs.Reply.{plain_reply};
 
 use itoa::Buffer;
-use mem_base::{BlockReport, Counts, Fault, Letter, Op, Reply, TextId, Texts, Totals};
+use mem_base::{BlockReport, Counts, Fault, Letter, Op, Reply, Side, TextId, Texts, Totals};
 use std::alloc::AllocError;
 
 /// Adds a number in decimal.
@@ -68,6 +68,26 @@ fn push_name(out: &mut Vec<u8>, texts: &Texts, name: TextId) -> Result<(), Alloc
     out.extend_from_slice(texts.get(name))
 }
 
+// A blank and the word of a source.
+fn push_side(out: &mut Vec<u8>, side: Side) -> Result<(), AllocError>
+    ensures { OnOk result (out.new.items ≡ out.old.items ++ blank ∷ side_word side) }
+{
+    match side {
+        Side::Arena => out.extend_from_slice(b" arena"),
+        Side::Raw => out.extend_from_slice(b" raw"),
+    }
+}
+
+// The line of a refusal, without its end.
+fn push_refusal(out: &mut Vec<u8>, side: Side, number: u64) -> Result<(), AllocError>
+    ensures { OnOk result (out.new.items ≡ out.old.items ++ line_of (refuse side number)) }
+{
+    out.extend_from_slice(b"refuse")?;
+    push_side(out, side)?;
+    out.push(b' ')?;
+    push_number(out, number)
+}
+
 // The line of an operation, without its end.
 fn push_op(out: &mut Vec<u8>, texts: &Texts, op: &Op) -> Result<(), AllocError>
     requires { IsKnownOp texts.now op.now }
@@ -104,6 +124,7 @@ fn push_op(out: &mut Vec<u8>, texts: &Texts, op: &Op) -> Result<(), AllocError>
             out.push(b' ')?;
             push_number(out, *count)
         }
+        Op::Refuse(side, number) => push_refusal(out, *side, *number),
         _ => unreachable!(),
     }
 }

@@ -1,18 +1,34 @@
+ghost use Rattle.std.specs.Prelude.{◌+◌, ◌^◌, ◌<◌, ◌≤◌};
+ghost use Rattle.extents.specs.Sums.{AllIn};
+
 use crate::run;
-use machine_core::Machine;
-use mem_base::{List, Reply, Step};
+use machine_core::{Machine, Spot};
+use mem_base::{Ask, History, List, Reply, Step, TextId};
+use sources::{ArenaSource, MemArenas, MemRaw, RawSource};
 use std::alloc::{AllocError, Global};
 use std::test::Fail;
 use streams::{MemSink, MemSource};
 use trace_reader::read_trace;
 
-// What a run over memory gave: its status, the number of its events, and what the sinks received.
+// What a run over memory gave: its status, what the raw source answered in each of its events, how
+// many requests were made of it and how many it refused, and what the sinks received.
 #[derive(Drop)]
 struct Given {
     status: u8,
-    events: usize,
+    answers: Vec<Ask>,
+    asked: u64,
+    refused: u64,
     out: Vec<u8>,
     err: Vec<u8>,
+}
+
+// What the raw source answered in each event.
+fn raw_answers(alloc: Global, history: &History) -> Result<Vec<Ask>, AllocError> {
+    let mut answers = Vec::new(alloc);
+    for entry in history.entries.as_slice() {
+        answers.push(entry.raw)?;
+    }
+    Ok(answers)
 }
 
 // A run over an input in memory that fails at a read, and an output that takes so many bytes.
@@ -28,10 +44,22 @@ fn run_over(
     let mut input = MemSource::new(List::from_slice(alloc, input)?, fail_at);
     let mut out = MemSink::new(alloc, limit)?;
     let mut err = MemSink::new(alloc, err_limit)?;
-    let outcome = run(alloc, words.as_slice(), &mut input, &mut out, &mut err);
+    let mut arenas = MemArenas::new(alloc)?;
+    let mut raw = MemRaw::new(alloc)?;
+    let outcome = run(
+        alloc,
+        words.as_slice(),
+        &mut input,
+        &mut arenas,
+        &mut raw,
+        &mut out,
+        &mut err,
+    );
     Ok(Given {
         status: outcome.status,
-        events: outcome.history.entries.len(),
+        answers: raw_answers(alloc, &outcome.history)?,
+        asked: raw.asked(),
+        refused: raw.refused(),
         out: Vec::from_slice(alloc, out.bytes())?,
         err: Vec::from_slice(alloc, err.bytes())?,
     })
@@ -60,7 +88,7 @@ fn one_track_over_blocks(rt: HostRuntime) -> Result<(), Fail> {
     let given = replay(rt.alloc(), FIRST)?;
     assert_eq!(rt; given.out.as_slice(), FIRST_REPORT);
     assert_eq!(rt; given.status, 0);
-    assert_eq!(rt; given.events, 8);
+    assert_eq!(rt; given.answers.len(), 8);
     assert!(rt; given.err.is_empty());
     let none = replay(rt.alloc(), b"pymtrace 1\n")?;
     assert_eq!(rt; none.out.as_slice(), SUMMARY_OF_NONE);
@@ -192,7 +220,7 @@ fn a_sink_that_fails_cuts_the_report(rt: HostRuntime) -> Result<(), Fail> {
         given.out.as_slice(),
         b"1 t acquire = ok\n2 t malloc m ".as_slice()
     );
-    assert_eq!(rt; given.events, 2);
+    assert_eq!(rt; given.answers.len(), 2);
     let whole = run_over(
         alloc,
         "replay",
@@ -205,25 +233,77 @@ fn a_sink_that_fails_cuts_the_report(rt: HostRuntime) -> Result<(), Fail> {
     Ok(())
 }
 
+#[test]
+fn a_refused_request_is_null(rt: HostRuntime) -> Result<(), Fail> {
+    let given = replay(
+        rt.alloc(),
+        b"pymtrace 1\ntrack t\nrefuse raw 1\nmalloc r x 8\nmalloc r x 8\npeek x 0 2\nfree r x\n",
+    )?;
+    assert!(rt;
+        ends_with(
+            &given,
+            0,
+            b"1 t refuse raw 1 = ok\n2 t malloc r x 8 = null\n3 t malloc r x 8 = ok\n4 t peek x 0 2 = cdcd\n5 t free r x = ok\nsummary events 5 status 0\nsummary lock free\nsummary blocks 0 bytes 0\nsummary arenas given 0 back 0 most 0\nsummary traced 0 peak 0\n"
+        )
+    );
+    assert_eq!(rt; given.asked, 2);
+    assert_eq!(rt; given.refused, 1);
+    Ok(())
+}
+
+#[test]
+fn a_size_is_too_great_before_a_source_is_asked(rt: HostRuntime) -> Result<(), Fail> {
+    let given = replay(
+        rt.alloc(),
+        b"pymtrace 1\ntrack t\nacquire\nmalloc m x 9223372036854775807\nmalloc m x 9223372036854775784\nmalloc m x 9223372036854775783\n",
+    )?;
+    assert!(rt;
+        ends_with(
+            &given,
+            0,
+            b"2 t malloc m x 9223372036854775807 = null\n3 t malloc m x 9223372036854775784 = null\n4 t malloc m x 9223372036854775783 = null\nsummary events 4 status 0\nsummary lock free\nsummary blocks 0 bytes 0\nsummary arenas given 0 back 0 most 0\nsummary traced 0 peak 0\n"
+        )
+    );
+    let answers = [Ask::NotAsked, Ask::NotAsked, Ask::NotAsked, Ask::Refused];
+    assert_eq!(rt; given.answers.as_slice(), answers.as_slice());
+    assert_eq!(rt; given.asked, 1);
+    assert_eq!(rt; given.refused, 1);
+    Ok(())
+}
+
 // The next event of the machine, where there is one.
-fn next_step(machine: &mut Machine) -> Option<Step> {
+fn next_step<A: ArenaSource, R: RawSource>(
+    machine: &mut Machine,
+    arenas: &mut A,
+    raw: &mut R,
+) -> Option<Step>
+    requires held { AllIn machine.old.held (R.seen raw.old).out }
+    requires count { (R.seen raw.old).asked < 2 ^ 62 }
+    ensures held { AllIn machine.new.held (R.seen raw.new).out }
+    ensures count { (R.seen raw.new).asked ≤ (R.seen raw.old).asked + 1 }
+{
     if machine.faulted() {
         return None;
     }
     let t = machine.first_ready()?;
-    machine.step(t).ok()
+    machine.step(t, arenas, raw).ok()
 }
 
 #[test]
 fn a_machine_does_one_event_at_a_time(rt: HostRuntime) -> Result<(), Fail> {
-    let trace = read_trace(rt.alloc(), FIRST)?;
-    let mut machine = Machine::new(rt.alloc(), trace)?;
+    let alloc = rt.alloc();
+    let mut arenas = MemArenas::new(alloc)?;
+    let mut raw = MemRaw::new(alloc)?;
+    let trace = read_trace(alloc, FIRST)?;
+    let mut machine = Machine::new(alloc, trace)?;
     assert_eq!(rt; machine.trace().tracks.len(), 1);
     assert_eq!(rt; machine.texts().find(b"x").map(|id| id.0), Some(2));
     assert!(rt; machine.ready(0));
     assert_eq!(rt; machine.first_ready(), Some(0));
-    assert!(rt; next_step(&mut machine).is_some_and(|step| step.reply == Reply::Ok));
-    assert!(rt; next_step(&mut machine).is_some_and(|step| step.entry.at == 1));
+    let first = next_step(&mut machine, &mut arenas, &mut raw);
+    assert!(rt; first.is_some_and(|step| step.reply == Reply::Ok));
+    let second = next_step(&mut machine, &mut arenas, &mut raw);
+    assert!(rt; second.is_some_and(|step| step.entry.raw == Ask::Granted));
     let totals = machine.totals();
     assert_eq!(rt; totals.events, 2);
     assert_eq!(rt; totals.owner, Some(0));
@@ -231,6 +311,17 @@ fn a_machine_does_one_event_at_a_time(rt: HostRuntime) -> Result<(), Fail> {
     assert_eq!(rt; totals.bytes, 4);
     assert_eq!(rt; machine.history().entries.len(), 2);
     assert!(rt; !machine.faulted());
-    assert_eq!(rt; machine.end().entries.len(), 2);
+
+    let spots = machine.places();
+    assert_eq!(rt; machine.end(&mut arenas, &mut raw).entries.len(), 2);
+
+    // The block had 4 bytes of data and the 24 of its pads, at the start of the source's window.
+    let spot = Spot {
+        name: TextId(2),
+        place: 0x2000_0000_0000,
+        len: 28,
+    };
+    assert!(rt; spots?.as_slice() == [spot].as_slice());
+    assert_eq!(rt; raw.asked(), 1);
     Ok(())
 }

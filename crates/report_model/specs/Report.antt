@@ -4,7 +4,7 @@ use Rattle.mem_base.specs.declared.history.Entry.{Entry}
 use Rattle.mem_base.specs.declared.reply.Fault.{Fault}
 use Rattle.mem_base.specs.declared.reply.Fault.TheVariants.{Unlocked, BadId, BadLead, BadTail}
 use Rattle.mem_base.specs.declared.reply.Totals.{Totals}
-use Rattle.trace_model.specs.Plain.{Name, Action, acquire, release, malloc, free, poke, peek, other, PlainTrack}
+use Rattle.trace_model.specs.Plain.{Name, Action, acquire, release, malloc, free, poke, peek, refuse, other, PlainTrack}
 use Rattle.trace_model.specs.Spelling.{line_of, hex_word, blank, line_end}
 use Rattle.event_model.specs.Effects.{State, PlainReply, ok, null, busy, absent, outside, held, not_held, bytes, fault, unsaid}
 use Rattle.event_model.specs.Events.{next_action, event}
@@ -61,6 +61,7 @@ block_name (malloc letter name size) = name
 block_name (free letter name) = name
 block_name (poke name offset new) = name
 block_name (peek name offset count) = name
+block_name (refuse side number) = []
 block_name other = []
 
 abbrev pub event_lines : ℕ → Name → Action → PlainReply → List ℕ

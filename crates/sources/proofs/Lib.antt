@@ -1,3 +1,4 @@
+pub mod Holders
 pub mod Plans
 pub mod Rows
 pub mod Slots

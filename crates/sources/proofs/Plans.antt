@@ -1,17 +1,10 @@
 -- The numbers of requests to refuse, as a tree keeps them.
-use Rattle.std.proofs.Common.{◌≡◌, ℕ, ◌+◌, ◌<◌, ◌⊎◌, inl, inr, Bool, true, false, not, ◌||◌, ◌==◌, List, [], ◌∷◌, refl, sym, ap, subst, ◌∙◌, arith}
-use Rattle.std.proofs.lemmas.Bool.Decides.{leb_tells, eqb_tells, nat_tests}
+use Rattle.std.proofs.Common.{◌≡◌, ℕ, ◌⊎◌, inl, inr, Bool, true, false, not, ◌||◌, ◌==◌, List, [], ◌∷◌, refl, sym, ap, subst, ◌∙◌}
 use Rattle.std.specs.Prelude.{IsTrue, MatchBool}
 use Rattle.std.specs.Ordering.{nat_cmp, match_ordering}
-use Rattle.std.specs.declared.cmp.Ordering.TheVariants.{Less, Equal, Greater}
 use Rattle.std.specs.BTreeSet.{insert_key}
+use Rattle.extents.proofs.Trees.{cmp_tells}
 use Rattle.sources.specs.Memory.{is_listed}
-
-pub cmp_tells : (a b : ℕ) → ((nat_cmp a b ≡ Less) × (a < b)) ⊎ ((nat_cmp a b ≡ Equal) × (a ≡ b)) ⊎ ((nat_cmp a b ≡ Greater) × (b < a))
-cmp_tells a b = elim (leb_tells (a + 1) b) [
-  | inl p ↦ inl (grind (arith, nat_tests), omega arith)
-  | inr p ↦ elim (eqb_tells a b) [ inl q ↦ inr (inl (grind (arith, nat_tests), q.1)) | inr q ↦ inr (inr (grind (arith, nat_tests), omega arith)) ]
-]
 
 or_twice : (a b : Bool) → (a || b) ≡ (a || (a || b))
 or_twice true b = refl

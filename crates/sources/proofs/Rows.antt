@@ -1,51 +1,27 @@
 -- The raw regions that are out, after one has come or gone.
-use Rattle.std.proofs.Common.{◌≡◌, ℕ, ◌+◌, ◌-◌, ◌≤◌, inl, inr, cond, List, [], ◌∷◌, sym, ap, subst, arith}
-use Rattle.std.specs.Ordering.{nat_cmp, match_ordering, is_eq}
+use Rattle.std.proofs.Common.{◌≡◌, ℕ, ◌+◌, ◌-◌, ◌≤◌, inl, inr, List, refl, arith}
+use Rattle.std.specs.Ordering.{nat_cmp}
 use Rattle.std.specs.BTreeMap.{insert_entry, is_at}
 use Rattle.std.specs.Map.{remove_entry}
 use Rattle.extents.specs.Extent.{Extent, covers, begins, MeetsNone}
 use Rattle.extents.specs.Sums.{tally, Has, Inserted, Removed}
-use Rattle.extents.proofs.Lists.{inserted_first, inserted_under, tally_inserted, tally_has}
-use Rattle.extents.proofs.Addresses.{covers_out, covered, begins_tells, begins_here}
+use Rattle.extents.proofs.Lists.{tally_inserted}
+use Rattle.extents.proofs.Addresses.{covers_out, covered, begins_tells}
+use Rattle.extents.proofs.Trees.{tree_inserted, tree_found}
 use Rattle.sources.specs.Memory.{aligned_up}
 use Rattle.sources.specs.Kept.{held_out, IsRow}
 use Rattle.sources.specs.declared.raw.Held.{Held}
-use Rattle.sources.proofs.Plans.{cmp_tells}
 
 abbrev pub extent_at : ℕ × Held → Extent
 extent_at e = record { place = e.0; len = e.1.len; maker = e.1.maker }
 
 -- a place at which no region begins is a new one of the tree
 pub row_inserted : (es : List (ℕ × Held)) (k : ℕ) (h : Held) → tally (begins k) (held_out es) ≡ 0 → Inserted (extent_at (k, h)) (held_out es) (held_out (insert_entry nat_cmp es k h))
-row_inserted [] k h none = inserted_first (extent_at (k, h)) []
-row_inserted (e ∷ es) k h none = elim (cmp_tells k e.0) as (λ _. Inserted (extent_at (k, h)) (held_out (e ∷ es)) (held_out (match_ordering (nat_cmp k e.0) ((k, h) ∷ e ∷ es) ((e.0, h) ∷ es) (e ∷ insert_entry nat_cmp es k h)))) [
-  | inl less ↦ rw less.0 (inserted_first (extent_at (k, h)) (held_out (e ∷ es)))
-  | inr p ↦ elim p [
-    | inl same ↦ absurd (elim (begins_tells k (extent_at e)) [ inl q ↦ omega arith | inr q ↦ q.1 (sym same.1) ])
-    | inr more ↦ rw more.0 (inserted_under (extent_at e) (extent_at (k, h)) (held_out es) (held_out (insert_entry nat_cmp es k h)) (row_inserted es k h (omega arith)))
-  ]
-]
+row_inserted = tree_inserted extent_at (λ e. refl)
 
 -- what begins at the place of a region that is out is that region
 pub row_removed : (es : List (ℕ × Held)) (x : Extent) → Has x (held_out es) → tally (begins x.place) (held_out es) ≤ 1 → Removed x (held_out es) (held_out (remove_entry (is_at (nat_cmp x.place)) es))
-row_removed [] x has once = absurd has
-row_removed (e ∷ es) x (inl same) once = elim (cmp_tells x.place e.0) as (λ _. Removed x (held_out (e ∷ es)) (held_out (cond (is_eq (nat_cmp x.place e.0)) es (e ∷ remove_entry (is_at (nat_cmp x.place)) es)))) [
-  | inl less ↦ let is : e.0 ≡ x.place = ap (λ y. y.place) same in absurd (omega arith)
-  | inr p ↦ elim p [
-    | inl at ↦ rw at.0 (subst (λ y. Inserted y (held_out es) (extent_at e ∷ held_out es)) same (inserted_first (extent_at e) (held_out es)))
-    | inr more ↦ let is : e.0 ≡ x.place = ap (λ y. y.place) same in absurd (omega arith)
-  ]
-]
-row_removed (e ∷ es) x (inr has) once =
-    let other : Removed x (held_out (e ∷ es)) (extent_at e ∷ held_out (remove_entry (is_at (nat_cmp x.place)) es)) =
-    inserted_under (extent_at e) x (held_out (remove_entry (is_at (nat_cmp x.place)) es)) (held_out es) (row_removed es x has (omega arith)) in
-    elim (cmp_tells x.place e.0) as (λ _. Removed x (held_out (e ∷ es)) (held_out (cond (is_eq (nat_cmp x.place e.0)) es (e ∷ remove_entry (is_at (nat_cmp x.place)) es)))) [
-      | inl less ↦ rw less.0 other
-      | inr p ↦ elim p [
-        | inl at ↦ let one = begins_here x in let le = tally_has (begins x.place) x (held_out es) has in absurd (elim (begins_tells x.place (extent_at e)) [ inl q ↦ omega arith | inr q ↦ q.1 (sym at.1) ])
-        | inr more ↦ rw more.0 other
-      ]
-    ]
+row_removed es x has once = (tree_found extent_at (λ e. refl) es x x.place refl has once).removed
 
 module _ (out : List Extent) (bytes max next : ℕ) (row : IsRow out bytes max next) where
   -- nothing begins at the next place

@@ -1,3 +1,4 @@
+pub mod Holder
 pub mod Kept
 pub mod Memory
 pub mod Source

@@ -1,5 +1,6 @@
 -- What a source does at a request, and what it may tell of itself.
-use Rattle.std.specs.Prelude.{◌≡◌, ℕ, ◌%◌, ◌≤◌, ◌==◌, ◌||◌, Bool, IsTrue, List, [], ◌∷◌, length, Option, None, Some, Result, Ok, Err}
+use Rattle.std.specs.Prelude.{◌≡◌, ℕ, ◌%◌, ◌≤◌, List, [], ◌∷◌, length, Option, None, Some, Result, Ok, Err}
+use Rattle.mem_base.specs.Plan.{Plan}
 use Rattle.raw_region.specs.Cells.{AllHome}
 use Rattle.raw_region.specs.Region.{RegionView}
 use Rattle.extents.specs.Extent.{Extent, Window, region_extent, LiesIn, MeetsNone}
@@ -31,16 +32,6 @@ pub record IsRawRegion (asked : ℕ) (region : RegionView) : Type 0 where
   pub len : length region.cells ≡ asked
   pub aligned : region.base % 16 ≡ 0
 
--- the plan is told, and the request of that number is in it
-abbrev pub IsPlanned : Option (ℕ → Bool) → ℕ → Type 0
-IsPlanned None n = ⊥
-IsPlanned (Some plan) n = IsTrue (plan n)
-
--- the plan with one more number, where a plan is told
-abbrev pub plan_with : ℕ → Option (ℕ → Bool) → Option (ℕ → Bool)
-plan_with n None = None
-plan_with n (Some plan) = Some (λ k. (n == k) || plan k)
-
 -- the shape after a call of `shape`: it is taken where a shape is told and nothing is out
 abbrev pub shape_after : {S : Type 0} → List Extent → S → Option S → Option S
 shape_after out asked None = None
@@ -51,3 +42,17 @@ shape_after (e ∷ out) asked (Some old) = Some old
 pub record ArenaShape : Type 0 where
   pub max : ℕ
   pub skew : ℕ
+
+-- all that contracts see of a source
+pub record SourceView (S : Type 0) : Type 0 where
+  -- how many requests there were, and how many of them were refused
+  pub asked : ℕ
+  pub refused : ℕ
+  -- the addresses that regions have
+  pub window : Window
+  -- the regions that are out
+  pub out : List Extent
+  -- which requests will be refused, by their numbers from 1 on, where the source tells it
+  pub plan : Plan
+  -- the arguments of the last `shape` that was taken, where the source tells it
+  pub shape : Option S

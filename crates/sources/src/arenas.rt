@@ -8,7 +8,8 @@ ghost use Rattle.raw_region.specs.Cells.{AllHome};
 ghost use Rattle.extents.specs.Extent.{region_extent};
 ghost use Rattle.extents.specs.Sums.{Has, Removed};
 ghost use Rattle.sources.specs.Kept.{IsSlotPlace, TakesSlot, slots_out};
-ghost use Rattle.sources.specs.Source.{refusals, Granted, IsArena, IsPlanned, shape_after, ArenaShape};
+ghost use Rattle.mem_base.specs.Plan.{IsPlanned};
+ghost use Rattle.sources.specs.Source.{refusals, Granted, IsArena, shape_after, ArenaShape};
 ghost use Rattle.sources.specs.Memory.{ArenasRefuse, IsLeastFreeSlot, ListsAlso, arena_window, is_listed, slot_place};
 
 use crate::regions::make_region;
@@ -136,17 +137,7 @@ fn make_in_slot(
 }
 
 impl ArenaSource for MemArenas {
-    ghost asked = { λ s. s.requests.asked };
-
-    ghost refused = { λ s. s.requests.refused };
-
-    ghost window = { λ _. arena_window };
-
-    ghost out = { λ s. s.out };
-
-    ghost plan = { λ s. Some (is_listed s.requests.plan) };
-
-    ghost shape = { λ s. Some s.shape };
+    ghost seen = { λ s. record { asked = s.requests.asked; refused = s.requests.refused; window = arena_window; out = s.out; plan = Some (is_listed s.requests.plan); shape = Some s.shape } };
 
     fn asked(&self) -> u64 {
         self.requests.asked()

@@ -7,7 +7,8 @@ ghost use Rattle.raw_region.specs.Cells.{AllHome};
 ghost use Rattle.extents.specs.Extent.{begins, region_extent};
 ghost use Rattle.extents.specs.Sums.{tally, Has, Inserted, Removed};
 ghost use Rattle.sources.specs.Kept.{held_out, IsNew};
-ghost use Rattle.sources.specs.Source.{refusals, Granted, IsRawRegion, IsPlanned, shape_after};
+ghost use Rattle.mem_base.specs.Plan.{IsPlanned};
+ghost use Rattle.sources.specs.Source.{refusals, Granted, IsRawRegion, shape_after};
 ghost use Rattle.sources.specs.Memory.{ListsAlso, RawRefuses, aligned_up, is_listed, raw_window};
 
 use crate::regions::make_region;
@@ -127,17 +128,7 @@ fn make_kept(
 }
 
 impl RawSource for MemRaw {
-    ghost asked = { λ s. s.requests.asked };
-
-    ghost refused = { λ s. s.requests.refused };
-
-    ghost window = { λ _. raw_window };
-
-    ghost out = { λ s. s.out };
-
-    ghost plan = { λ s. Some (is_listed s.requests.plan) };
-
-    ghost shape = { λ s. Some s.max_bytes };
+    ghost seen = { λ s. record { asked = s.requests.asked; refused = s.requests.refused; window = raw_window; out = s.out; plan = Some (is_listed s.requests.plan); shape = Some s.max_bytes } };
 
     fn asked(&self) -> u64 {
         self.requests.asked()

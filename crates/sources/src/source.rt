@@ -3,11 +3,12 @@
 //! A source may tell which requests it will refuse, its plan, and the arguments of the last `shape`
 //! that it took. One that tells neither may ignore `refuse` and `shape`.
 
-ghost use Rattle.std.specs.Prelude.{◌≡◌, ℕ, ◌+◌, ◌^◌, ◌<◌, ◌≤◌, Bool, List, Option, IfOk, OnOk, OnErr, IsErrOf};
+ghost use Rattle.std.specs.Prelude.{◌≡◌, ℕ, ◌+◌, ◌^◌, ◌<◌, ◌≤◌, IfOk, OnOk, OnErr, IsErrOf};
 ghost use Rattle.raw_region.specs.Cells.{AllHome};
-ghost use Rattle.extents.specs.Extent.{Extent, Window, region_extent};
+ghost use Rattle.extents.specs.Extent.{region_extent};
 ghost use Rattle.extents.specs.Sums.{Has, Removed};
-ghost use Rattle.sources.specs.Source.{refusals, Granted, IsArena, IsRawRegion, IsPlanned, plan_with, shape_after, ArenaShape};
+ghost use Rattle.mem_base.specs.Plan.{IsPlanned, plan_with};
+ghost use Rattle.sources.specs.Source.{refusals, Granted, IsArena, IsRawRegion, shape_after, ArenaShape, SourceView};
 
 use raw_region::Region;
 use std::alloc::AllocError;
@@ -24,148 +25,98 @@ pub enum AskError {
 
 /// Where arenas come from: regions of 1,048,576 bytes.
 pub trait ArenaSource {
-    /// How many requests there were.
-    ghost asked: { Self → ℕ };
-
-    /// How many of them were refused.
-    ghost refused: { Self → ℕ };
-
-    /// The addresses that regions have.
-    ghost window: { Self → Window };
-
-    /// The regions that are out.
-    ghost out: { Self → List Extent };
-
-    /// Which requests will be refused, by their numbers from 1 on, where the source tells it.
-    ghost plan: { Self → Option (ℕ → Bool) };
-
-    /// The arguments of the last `shape` that was taken, where the source tells it.
-    ghost shape: { Self → Option ArenaShape };
+    /// The counts, the window, what is out, and what the source tells of itself.
+    ghost seen: { Self → SourceView ArenaShape };
 
     /// How many requests there were.
     fn asked(&self) -> u64
-        ensures { result ≡ asked self.now };
+        ensures { result ≡ (seen self.now).asked };
 
     /// How many of them were refused.
     fn refused(&self) -> u64
-        ensures { result ≡ refused self.now };
+        ensures { result ≡ (seen self.now).refused };
 
     /// Asks for an arena.
     fn ask(&mut self) -> Result<Region, AskError>
-        requires { asked self.old < 2 ^ 63 }
-        ensures asked { asked self.new ≡ asked self.old + 1 }
-        ensures refused { refused self.new ≡ refused self.old + refusals result }
-        ensures planned { IsPlanned (plan self.old) (asked self.old + 1) → IsErrOf result AskError.Refused }
-        ensures granted { IfOk result (λ r. Granted r (window self.old) (out self.old) (out self.new)) }
+        requires { (seen self.old).asked < 2 ^ 63 }
+        ensures asked { (seen self.new).asked ≡ (seen self.old).asked + 1 }
+        ensures refused { (seen self.new).refused ≡ (seen self.old).refused + refusals result }
+        ensures planned { IsPlanned (seen self.old).plan ((seen self.old).asked + 1) → IsErrOf result AskError.Refused }
+        ensures granted { IfOk result (λ r. Granted r (seen self.old).window (seen self.old).out (seen self.new).out) }
         ensures arena { IfOk result IsArena }
-        ensures none { OnErr result (out self.new ≡ out self.old) }
-        ensures window { window self.new ≡ window self.old }
-        ensures plan { plan self.new ≡ plan self.old }
-        ensures shape { shape self.new ≡ shape self.old };
+        ensures none { OnErr result ((seen self.new).out ≡ (seen self.old).out) }
+        ensures window { (seen self.new).window ≡ (seen self.old).window }
+        ensures plan { (seen self.new).plan ≡ (seen self.old).plan }
+        ensures shape { (seen self.new).shape ≡ (seen self.old).shape };
 
     /// Takes an arena back and gives its memory up.
     fn give(&mut self, region: Region)
-        requires { Has (region_extent region) (out self.old) × AllHome region.cells }
-        ensures back { Removed (region_extent region) (out self.old) (out self.new) }
-        ensures asked { asked self.new ≡ asked self.old }
-        ensures refused { refused self.new ≡ refused self.old }
-        ensures window { window self.new ≡ window self.old }
-        ensures plan { plan self.new ≡ plan self.old }
-        ensures shape { shape self.new ≡ shape self.old };
+        requires { Has (region_extent region) (seen self.old).out × AllHome region.cells }
+        ensures back { Removed (region_extent region) (seen self.old).out (seen self.new).out }
+        ensures asked { (seen self.new).asked ≡ (seen self.old).asked }
+        ensures refused { (seen self.new).refused ≡ (seen self.old).refused }
+        ensures window { (seen self.new).window ≡ (seen self.old).window }
+        ensures plan { (seen self.new).plan ≡ (seen self.old).plan }
+        ensures shape { (seen self.new).shape ≡ (seen self.old).shape };
 
-    /// Wants the `k`-th request from now to be refused. The error leaves the plan as it was.
+    /// Wants the `k`-th request from now to be refused. The error leaves all as it was.
     fn refuse(&mut self, k: u64) -> Result<(), AllocError>
         requires number { (1 ≤ k) × (k ≤ 1000000) }
-        requires count { asked self.old < 2 ^ 63 }
-        ensures listed { OnOk result (plan self.new ≡ plan_with (asked self.old + k) (plan self.old)) }
-        ensures left { OnErr result (plan self.new ≡ plan self.old) }
-        ensures asked { asked self.new ≡ asked self.old }
-        ensures refused { refused self.new ≡ refused self.old }
-        ensures window { window self.new ≡ window self.old }
-        ensures out { out self.new ≡ out self.old }
-        ensures shape { shape self.new ≡ shape self.old };
+        requires count { (seen self.old).asked < 2 ^ 63 }
+        ensures listed { OnOk result (seen self.new ≡ record (seen self.old) { plan = plan_with ((seen self.old).asked + k) (seen self.old).plan }) }
+        ensures left { OnErr result (seen self.new ≡ seen self.old) };
 
     /// Asks for room for `max` arenas, whose bases are `skew` pages of 4,096 bytes past a mebibyte.
     fn shape(&mut self, max: u32, skew: u8)
         requires { max ≤ 1024 }
-        ensures shape { shape self.new ≡ shape_after (out self.old) (record { max = max; skew = skew }) (shape self.old) }
-        ensures asked { asked self.new ≡ asked self.old }
-        ensures refused { refused self.new ≡ refused self.old }
-        ensures window { window self.new ≡ window self.old }
-        ensures out { out self.new ≡ out self.old }
-        ensures plan { plan self.new ≡ plan self.old };
+        ensures { seen self.new ≡ record (seen self.old) { shape = shape_after (seen self.old).out (record { max = max; skew = skew }) (seen self.old).shape } };
 }
 
 /// Where raw regions come from: regions of any length.
 pub trait RawSource {
-    /// How many requests there were.
-    ghost asked: { Self → ℕ };
-
-    /// How many of them were refused.
-    ghost refused: { Self → ℕ };
-
-    /// The addresses that regions have.
-    ghost window: { Self → Window };
-
-    /// The regions that are out.
-    ghost out: { Self → List Extent };
-
-    /// Which requests will be refused, by their numbers from 1 on, where the source tells it.
-    ghost plan: { Self → Option (ℕ → Bool) };
-
-    /// The argument of the last `shape` that was taken, where the source tells it.
-    ghost shape: { Self → Option ℕ };
+    /// The counts, the window, what is out, and what the source tells of itself.
+    ghost seen: { Self → SourceView ℕ };
 
     /// How many requests there were.
     fn asked(&self) -> u64
-        ensures { result ≡ asked self.now };
+        ensures { result ≡ (seen self.now).asked };
 
     /// How many of them were refused.
     fn refused(&self) -> u64
-        ensures { result ≡ refused self.now };
+        ensures { result ≡ (seen self.now).refused };
 
     /// Asks for a region of `len` bytes.
     fn ask(&mut self, len: u64) -> Result<Region, AskError>
-        requires count { asked self.old < 2 ^ 63 }
+        requires count { (seen self.old).asked < 2 ^ 63 }
         requires some { 1 ≤ len }
-        ensures asked { asked self.new ≡ asked self.old + 1 }
-        ensures refused { refused self.new ≡ refused self.old + refusals result }
-        ensures planned { IsPlanned (plan self.old) (asked self.old + 1) → IsErrOf result AskError.Refused }
-        ensures granted { IfOk result (λ r. Granted r (window self.old) (out self.old) (out self.new)) }
+        ensures asked { (seen self.new).asked ≡ (seen self.old).asked + 1 }
+        ensures refused { (seen self.new).refused ≡ (seen self.old).refused + refusals result }
+        ensures planned { IsPlanned (seen self.old).plan ((seen self.old).asked + 1) → IsErrOf result AskError.Refused }
+        ensures granted { IfOk result (λ r. Granted r (seen self.old).window (seen self.old).out (seen self.new).out) }
         ensures raw { IfOk result (IsRawRegion len) }
-        ensures none { OnErr result (out self.new ≡ out self.old) }
-        ensures window { window self.new ≡ window self.old }
-        ensures plan { plan self.new ≡ plan self.old }
-        ensures shape { shape self.new ≡ shape self.old };
+        ensures none { OnErr result ((seen self.new).out ≡ (seen self.old).out) }
+        ensures window { (seen self.new).window ≡ (seen self.old).window }
+        ensures plan { (seen self.new).plan ≡ (seen self.old).plan }
+        ensures shape { (seen self.new).shape ≡ (seen self.old).shape };
 
     /// Takes a region back and gives its memory up.
     fn give(&mut self, region: Region)
-        requires { Has (region_extent region) (out self.old) × AllHome region.cells }
-        ensures back { Removed (region_extent region) (out self.old) (out self.new) }
-        ensures asked { asked self.new ≡ asked self.old }
-        ensures refused { refused self.new ≡ refused self.old }
-        ensures window { window self.new ≡ window self.old }
-        ensures plan { plan self.new ≡ plan self.old }
-        ensures shape { shape self.new ≡ shape self.old };
+        requires { Has (region_extent region) (seen self.old).out × AllHome region.cells }
+        ensures back { Removed (region_extent region) (seen self.old).out (seen self.new).out }
+        ensures asked { (seen self.new).asked ≡ (seen self.old).asked }
+        ensures refused { (seen self.new).refused ≡ (seen self.old).refused }
+        ensures window { (seen self.new).window ≡ (seen self.old).window }
+        ensures plan { (seen self.new).plan ≡ (seen self.old).plan }
+        ensures shape { (seen self.new).shape ≡ (seen self.old).shape };
 
-    /// Wants the `k`-th request from now to be refused. The error leaves the plan as it was.
+    /// Wants the `k`-th request from now to be refused. The error leaves all as it was.
     fn refuse(&mut self, k: u64) -> Result<(), AllocError>
         requires number { (1 ≤ k) × (k ≤ 1000000) }
-        requires count { asked self.old < 2 ^ 63 }
-        ensures listed { OnOk result (plan self.new ≡ plan_with (asked self.old + k) (plan self.old)) }
-        ensures left { OnErr result (plan self.new ≡ plan self.old) }
-        ensures asked { asked self.new ≡ asked self.old }
-        ensures refused { refused self.new ≡ refused self.old }
-        ensures window { window self.new ≡ window self.old }
-        ensures out { out self.new ≡ out self.old }
-        ensures shape { shape self.new ≡ shape self.old };
+        requires count { (seen self.old).asked < 2 ^ 63 }
+        ensures listed { OnOk result (seen self.new ≡ record (seen self.old) { plan = plan_with ((seen self.old).asked + k) (seen self.old).plan }) }
+        ensures left { OnErr result (seen self.new ≡ seen self.old) };
 
     /// Asks for room for `max_bytes` bytes.
     fn shape(&mut self, max_bytes: u64)
-        ensures shape { shape self.new ≡ shape_after (out self.old) max_bytes (shape self.old) }
-        ensures asked { asked self.new ≡ asked self.old }
-        ensures refused { refused self.new ≡ refused self.old }
-        ensures window { window self.new ≡ window self.old }
-        ensures out { out self.new ≡ out self.old }
-        ensures plan { plan self.new ≡ plan self.old };
+        ensures { seen self.new ≡ record (seen self.old) { shape = shape_after (seen self.old).out max_bytes (seen self.old).shape } };
 }

@@ -9,9 +9,9 @@ fn crosses<T: Send>(_value: &T) {}
 
 // The place of one more arena, which goes back at once.
 fn next_arena<A: ArenaSource>(arenas: &mut A) -> Result<u64, AskError>
-    requires { A.asked arenas.old < 2 ^ 63 }
-    ensures asked { A.asked arenas.new ≡ A.asked arenas.old + 1 }
-    ensures stays { AllIn (A.out arenas.old) (A.out arenas.new) }
+    requires { (A.seen arenas.old).asked < 2 ^ 63 }
+    ensures asked { (A.seen arenas.new).asked ≡ (A.seen arenas.old).asked + 1 }
+    ensures stays { AllIn (A.seen arenas.old).out (A.seen arenas.new).out }
 {
     let region = arenas.ask()?;
     let place = region.base();
@@ -21,8 +21,8 @@ fn next_arena<A: ArenaSource>(arenas: &mut A) -> Result<u64, AskError>
 
 // The places of two arenas that are out at once, where the first request is granted.
 fn two_arenas<A: ArenaSource>(arenas: &mut A) -> Result<(u64, Result<u64, AskError>), AskError>
-    requires { A.asked arenas.old + 1 < 2 ^ 63 }
-    ensures { A.asked arenas.new ≤ A.asked arenas.old + 2 }
+    requires { (A.seen arenas.old).asked + 1 < 2 ^ 63 }
+    ensures { (A.seen arenas.new).asked ≤ (A.seen arenas.old).asked + 2 }
 {
     let first = arenas.ask()?;
     let place = first.base();
@@ -62,10 +62,10 @@ fn arenas_take_the_least_free_slots_and_listed_requests_are_refused(
 
 // The place of one more raw region, which goes back at once.
 fn next_raw<R: RawSource>(raws: &mut R, len: u64) -> Result<u64, AskError>
-    requires count { R.asked raws.old < 2 ^ 63 }
+    requires count { (R.seen raws.old).asked < 2 ^ 63 }
     requires some { 1 ≤ len }
-    ensures asked { R.asked raws.new ≡ R.asked raws.old + 1 }
-    ensures stays { AllIn (R.out raws.old) (R.out raws.new) }
+    ensures asked { (R.seen raws.new).asked ≡ (R.seen raws.old).asked + 1 }
+    ensures stays { AllIn (R.seen raws.old).out (R.seen raws.new).out }
 {
     let region = raws.ask(len)?;
     let place = region.base();
@@ -79,9 +79,9 @@ fn two_raws<R: RawSource>(
     first_len: u64,
     second_len: u64,
 ) -> Result<(u64, Result<u64, AskError>), AskError>
-    requires count { R.asked raws.old + 1 < 2 ^ 63 }
+    requires count { (R.seen raws.old).asked + 1 < 2 ^ 63 }
     requires some { (1 ≤ first_len) × (1 ≤ second_len) }
-    ensures { R.asked raws.new ≤ R.asked raws.old + 2 }
+    ensures { (R.seen raws.new).asked ≤ (R.seen raws.old).asked + 2 }
 {
     let first = raws.ask(first_len)?;
     let place = first.base();

@@ -1,17 +1,19 @@
 -- Words that are read as an operation are its words, and its words are read as it.
-use Rattle.std.proofs.Common.{◌≡◌, ℕ, ◌<◌, ◌≤◌, Bool, true, cond, List, [], ◌∷◌, length, Ok, Err, refl, sym, ap, subst, inl, inr}
+use Rattle.std.proofs.Common.{◌≡◌, ℕ, ◌<◌, ◌≤◌, Bool, true, cond, List, [], ◌∷◌, length, Ok, Err, refl, sym, ap, subst, ◌∙◌, inl, inr, lit<}
 use Rattle.std.specs.Prelude.{nat_le, decimal, codes}
 use Rattle.std.specs.List.{AllByRecursion}
 use Rattle.std.specs.Fmt.{signed_decimal}
 use Rattle.std.proofs.lemmas.Bool.{leb-true, le-leb}
-use Rattle.mem_base.specs.declared.limits.TheConstants.{MAX_REACH}
-use Rattle.trace_model.specs.Plain.{Name, Action, acquire, release, malloc, free, poke, peek, other}
-use Rattle.trace_model.specs.Spelling.{is_between, is_name, is_forged, letter_word, hex_word, words_of, Fits}
+use Rattle.mem_base.specs.declared.limits.TheConstants.{MAX_REACH, MAX_REFUSAL}
+use Rattle.mem_base.specs.declared.trace.Side.{Side}
+use Rattle.mem_base.specs.declared.trace.Side.TheVariants as sides
+use Rattle.trace_model.specs.Plain.{Name, Action, acquire, release, malloc, free, poke, peek, refuse, other}
+use Rattle.trace_model.specs.Spelling.{is_between, is_name, is_forged, letter_word, side_word, hex_word, words_of, Fits}
 use Rattle.trace_model.specs.declared.keyword.Keyword.{Keyword}
 use Rattle.trace_model.specs.declared.keyword.Keyword.TheVariants as keys
 use Rattle.trace_model.specs.declared.cause.TraceCause.TheVariants.{BadRange, BadName, ForgedLetter}
-use Rattle.trace_model.specs.Reading.{◌>>=◌, keyword_text, keyword_at, unforged, malloc_at, free_at, poke_at, peek_at, action_at, number_at, offset_at, count_at, name_at, letter_at, hex_from, hex_at}
-use Rattle.trace_model.proofs.OperandLaws.{both, bind_ok, passed, unpassed, ok_is, chosen, number_takes, number_again, offset_takes, offset_again, count_takes, count_again, name_takes, letter_takes, letter_again, hex_takes, hex_back}
+use Rattle.trace_model.specs.Reading.{◌>>=◌, keyword_text, keyword_at, unforged, malloc_at, free_at, poke_at, peek_at, refuse_at, action_at, number_at, offset_at, count_at, refusal_at, name_at, letter_at, side_at, hex_from, hex_at}
+use Rattle.trace_model.proofs.OperandLaws.{both, bind_ok, passed, unpassed, ok_is, chosen, number_takes, number_again, ranged_takes, ranged_again, offset_takes, offset_again, name_takes, letter_takes, letter_again, side_takes, side_again, hex_takes, hex_back}
 
 pub keyword_takes : (w : List ℕ) (k : Keyword) → keyword_at w ≡ Ok k → w ≡ keyword_text k
 keyword_takes w k e =
@@ -33,7 +35,10 @@ keyword_takes w k e =
                                   elim (chosen keyword_text w keys.Poke _ k e5) [
                                     | inl h ↦ h
                                     | inr e6 ↦
-                                        elim (chosen keyword_text w keys.Peek _ k e6) [ inl h ↦ h | inr e7 ↦ absurd cc ]
+                                        elim (chosen keyword_text w keys.Peek _ k e6) [
+                                          | inl h ↦ h
+                                          | inr e7 ↦ elim (chosen keyword_text w keys.Refuse _ k e7) [ inl h ↦ h | inr e8 ↦ absurd cc ]
+                                        ]
                                   ]
                             ]
                       ]
@@ -92,8 +97,18 @@ peek_takes name offset count a e =
     let o = bind_ok (offset_at offset) (λ o. count_at count >>= λ n. Ok (peek name o n)) a u.2 in
     let n = bind_ok (count_at count) (λ n. Ok (peek name o.0 n)) a o.2 in
     let ot = offset_takes offset o.0 o.1 in
-    let nt = count_takes count n.0 n.1 in
+    let nt = ranged_takes 1 MAX_REACH count n.0 n.1 in
     subst (Spells keys.Peek (name ∷ offset ∷ count ∷ [])) (ok_is (peek name o.0 n.0) a n.2) ((λ i. codes "peek" ∷ name ∷ sym ot.0 i ∷ sym nt.0 i ∷ []), (name_takes name u.0 u.1, ot.1, nt.1, nt.2))
+
+refuse_takes : (side number : List ℕ) (a : Action) → refuse_at side number ≡ Ok a → Spells keys.Refuse (side ∷ number ∷ []) a
+unfolding refuse_at
+refuse_takes side number a e =
+    let s = bind_ok (side_at side) (λ s. refusal_at number >>= λ n. Ok (refuse s n)) a e in
+    let n = bind_ok (refusal_at number) (λ n. Ok (refuse s.0 n)) a s.2 in
+    let st = side_takes side s.0 s.1 in
+    let nt = ranged_takes 1 MAX_REFUSAL number n.0 n.1 in
+    subst (Spells keys.Refuse (side ∷ number ∷ [])) (ap (λ (s : Side). refuse s n.0) (sym st.1) ∙ ok_is (refuse s.0 n.0) a n.2)
+    ((λ i. codes "refuse" ∷ sym st.0 i ∷ sym nt.0 i ∷ []), (nt.1, nt.2))
 
 pub action_takes : (k : Keyword) (ws : List (List ℕ)) (a : Action) → action_at k ws ≡ Ok a → Spells k ws a
 unfolding action_at
@@ -121,6 +136,10 @@ action_takes keys.Peek (w ∷ []) a e = absurd cc
 action_takes keys.Peek (w ∷ x ∷ []) a e = absurd cc
 action_takes keys.Peek (w ∷ x ∷ y ∷ z ∷ ws) a e = absurd cc
 action_takes keys.Peek (name ∷ offset ∷ count ∷ []) a e = peek_takes name offset count a e
+action_takes keys.Refuse [] a e = absurd cc
+action_takes keys.Refuse (w ∷ []) a e = absurd cc
+action_takes keys.Refuse (w ∷ x ∷ y ∷ ws) a e = absurd cc
+action_takes keys.Refuse (side ∷ number ∷ []) a e = refuse_takes side number a e
 
 abbrev pub key_of : Action → Keyword
 key_of acquire = keys.Acquire
@@ -129,6 +148,7 @@ key_of (malloc letter name size) = keys.Malloc
 key_of (free letter name) = keys.Free
 key_of (poke name offset bytes) = keys.Poke
 key_of (peek name offset count) = keys.Peek
+key_of (refuse side number) = keys.Refuse
 key_of other = keys.Acquire
 
 abbrev pub operands_of : Action → List (List ℕ)
@@ -138,6 +158,7 @@ operands_of (malloc letter name size) = letter_word letter ∷ name ∷ decimal 
 operands_of (free letter name) = letter_word letter ∷ name ∷ []
 operands_of (poke name offset bytes) = name ∷ signed_decimal offset ∷ hex_word bytes ∷ []
 operands_of (peek name offset count) = name ∷ signed_decimal offset ∷ decimal count ∷ []
+operands_of (refuse side number) = side_word side ∷ decimal number ∷ []
 operands_of other = []
 
 pub words_are : (a : Action) → Fits a → words_of a ≡ keyword_text (key_of a) ∷ operands_of a
@@ -147,6 +168,7 @@ words_are (malloc letter name size) fits = refl
 words_are (free letter name) fits = refl
 words_are (poke name offset bytes) fits = refl
 words_are (peek name offset count) fits = refl
+words_are (refuse side number) fits = refl
 words_are other fits = absurd fits
 
 name_again : (name : Name) → is_name name ≡ true → name_at name ≡ Ok tt
@@ -157,11 +179,13 @@ unfolding hex_at
 hex_again bytes fits some few = rw (hex_back bytes fits, le-leb _ _ some, le-leb _ _ few) refl
 
 pub action_again : (a : Action) → Fits a → action_at (key_of a) (operands_of a) ≡ Ok a
-unfolding action_at malloc_at free_at poke_at peek_at
+unfolding action_at malloc_at free_at poke_at peek_at refuse_at
 action_again acquire fits = refl
 action_again release fits = refl
 action_again (malloc letter name size) fits = rw (letter_again letter, name_again name fits.0, number_again size fits.1) refl
 action_again (free letter name) fits = rw (letter_again letter, name_again name fits) refl
 action_again (poke name offset bytes) fits = rw (name_again name fits.0, offset_again offset fits.1, hex_again bytes fits.2 fits.3 fits.4, fits.5) refl
-action_again (peek name offset count) fits = rw (name_again name fits.0, offset_again offset fits.1, count_again count fits.2 fits.3) refl
+action_again (peek name offset count) fits = rw (name_again name fits.0, offset_again offset fits.1, ranged_again 1 MAX_REACH count (lit< tt) fits.2 fits.3) refl
+action_again (refuse sides.Raw number) fits = rw (side_again, ranged_again 1 MAX_REFUSAL number (lit< tt) fits.0 fits.1) refl
+action_again (refuse sides.Arena number) fits = absurd fits
 action_again other fits = absurd fits

@@ -10,11 +10,13 @@ use Rattle.std.proofs.lemmas.Slice.Eq.{bytes_eq-Decides}
 use Rattle.std.proofs.lemmas.Str.Parse.{IsNumeralModel, numerals_by_fold}
 use Rattle.mem_base.specs.declared.trace.Letter.{Letter}
 use Rattle.mem_base.specs.declared.trace.Letter.TheVariants.{Raw, Mem, Obj}
+use Rattle.mem_base.specs.declared.trace.Side.{Side}
+use Rattle.mem_base.specs.declared.trace.Side.TheVariants as sides
 use Rattle.block_model.specs.Block.{IsOffset}
-use Rattle.trace_model.specs.Spelling.{is_between, is_name, letter_word, hex_word, glyph}
+use Rattle.trace_model.specs.Spelling.{is_between, is_name, letter_word, side_word, hex_word, glyph}
 use Rattle.trace_model.specs.declared.cause.TraceCause.{TraceCause}
-use Rattle.trace_model.specs.declared.cause.TraceCause.TheVariants.{BadNumber, BadRange, BadName}
-use Rattle.trace_model.specs.Reading.{◌>>=◌, digits_from, number_at, forward_at, backward_at, offset_at, count_at, name_at, letter_at, digit_of, joined, hex_from}
+use Rattle.trace_model.specs.declared.cause.TraceCause.TheVariants.{BadNumber, BadRange, BadName, UnknownWord}
+use Rattle.trace_model.specs.Reading.{◌>>=◌, digits_from, number_at, forward_at, backward_at, offset_at, number_in, name_at, letter_at, side_at, digit_of, joined, hex_from}
 
 -- the value of a step that did not fail
 pub bind_ok : {A B : Type 0} (r : Result A TraceCause) (f : A → Result B TraceCause) (y : B) → (r >>= f) ≡ Ok y → (x : A) × (r ≡ Ok x) × (f x ≡ Ok y)
@@ -117,7 +119,21 @@ number_again n lt =
     first zero lt h = ap length (decimal_digit 0 (lit< tt))
     first (suc k) lt h = absurd (omega (arith, first_decimal (suc k) (omega arith) lt, h))
 
--- ---- offsets and counts
+-- a number that is read is in its range
+pub ranged_takes : (least most : ℕ) (w : List ℕ) (n : ℕ) → number_in least most w ≡ Ok n → (w ≡ decimal n) × (least ≤ n) × (n ≤ most)
+unfolding number_in
+ranged_takes least most w n e =
+    let b = bind_ok (number_at w) (λ k. cond (is_between least most k) (Ok k) (Err BadRange)) n e in
+    let t = number_takes w b.0 b.1 in
+    let p = passed (is_between least most b.0) (Ok b.0) BadRange n b.2 in
+    let r = both (nat_le least b.0) (nat_le b.0 most) p.0 in
+    subst (λ (k : ℕ). (w ≡ decimal k) × (least ≤ k) × (k ≤ most)) (ok_is b.0 n p.1) (t.0, leb-true _ _ r.0, leb-true _ _ r.1)
+
+pub ranged_again : (least most n : ℕ) → most < 2 ^ 64 → least ≤ n → n ≤ most → number_in least most (decimal n) ≡ Ok n
+unfolding number_in
+ranged_again least most n fits low high = rw (number_again n (omega (arith, fits, high)), le-leb _ _ low, le-leb _ _ high) refl
+
+-- ---- offsets
 
 forward_takes : (n : ℕ) (z : ℤ) → forward_at n ≡ Ok z → (z ≡ pos n) × (n < 2 ^ 63)
 forward_takes n z e =
@@ -170,20 +186,7 @@ offset_again (pos n) lt =
 offset_again (negsuc n) lt =
     ap (λ (r : Result ℕ TraceCause). r >>= backward_at) (number_again (suc n) (omega (arith, lt))) ∙ ap (λ (b : Bool). cond b (Ok (negsuc n)) (Err BadRange)) (lt-ltb _ _ lt)
 
-pub count_takes : (w : List ℕ) (n : ℕ) → count_at w ≡ Ok n → (w ≡ decimal n) × (1 ≤ n) × (n ≤ 1024)
-unfolding count_at
-count_takes w n e =
-    let b = bind_ok (number_at w) (λ k. cond (is_between 1 1024 k) (Ok k) (Err BadRange)) n e in
-    let t = number_takes w b.0 b.1 in
-    let p = passed (is_between 1 1024 b.0) (Ok b.0) BadRange n b.2 in
-    let r = both (nat_le 1 b.0) (nat_le b.0 1024) p.0 in
-    subst (λ (k : ℕ). (w ≡ decimal k) × (1 ≤ k) × (k ≤ 1024)) (ok_is b.0 n p.1) (t.0, leb-true _ _ r.0, leb-true _ _ r.1)
-
-pub count_again : (n : ℕ) → 1 ≤ n → n ≤ 1024 → count_at (decimal n) ≡ Ok n
-unfolding count_at
-count_again n low high = rw (number_again n (omega (arith, high)), le-leb _ _ low, le-leb _ _ high) refl
-
--- ---- names and letters
+-- ---- names, letters and sides
 
 pub name_takes : (w : List ℕ) (u : Unit {0}) → name_at w ≡ Ok u → is_name w ≡ true
 name_takes w u e = (passed (is_name w) (Ok tt) BadName u e).0
@@ -211,6 +214,17 @@ unfolding letter_at
 letter_again Raw = refl
 letter_again Mem = refl
 letter_again Obj = refl
+
+-- one side alone is read
+pub side_takes : (w : List ℕ) (s : Side) → side_at w ≡ Ok s → (w ≡ side_word sides.Raw) × (s ≡ sides.Raw)
+unfolding side_at
+side_takes w s e =
+    let p = passed (bytes_eq w (side_word sides.Raw)) (Ok sides.Raw) UnknownWord s e in
+    ((bytes_eq-Decides w (side_word sides.Raw)).0 p.0, sym (ok_is sides.Raw s p.1))
+
+pub side_again : side_at (side_word sides.Raw) ≡ Ok sides.Raw
+unfolding side_at
+side_again = refl
 
 -- ---- bytes in hexadecimal
 

@@ -2,6 +2,7 @@
 use Rattle.std.specs.Prelude.{ℕ, ℤ, List, [], map, slice_get, unwrap_or}
 use Rattle.mem_base.specs.declared.texts.TextId.{TextId}
 use Rattle.mem_base.specs.declared.trace.Letter.{Letter}
+use Rattle.mem_base.specs.declared.trace.Side.{Side}
 use Rattle.mem_base.specs.declared.trace.Op.{Op}
 use Rattle.mem_base.specs.declared.trace.Op.TheVariants as code
 use Rattle.mem_base.specs.declared.trace.Track.{Track}
@@ -19,6 +20,7 @@ pub data Action : Type 0 where
   free : Letter → Name → Action
   poke : Name → ℤ → List ℕ → Action
   peek : Name → ℤ → ℕ → Action
+  refuse : Side → ℕ → Action
   other : Action
 
 -- a track and what it does, in order
@@ -43,6 +45,7 @@ action_of texts (code.Malloc letter name size) = malloc letter (text_at texts na
 action_of texts (code.Free letter name) = free letter (text_at texts name)
 action_of texts (code.Poke name offset bytes) = poke (text_at texts name) offset bytes
 action_of texts (code.Peek name offset count) = peek (text_at texts name) offset count
+action_of texts (code.Refuse side number) = refuse side number
 action_of texts op = other
 
 abbrev pub track_of : List Name → Track → PlainTrack

@@ -2,11 +2,13 @@
 use Rattle.std.specs.Prelude.{ℕ, zero, suc, ◌+◌, ◌-◌, ◌*◌, ◌^◌, ℤ, pos, negsuc, Bool, true, false, not, ◌&&◌, nat_lt, ◌==◌, if◌then◌else◌, List, [], ◌∷◌, ◌++◌, length, Option, Some, None, Result, Ok, Err, codes}
 use Rattle.std.specs.List.{list_all, list_any, slice_split}
 use Rattle.std.specs.Str.{bytes_eq}
-use Rattle.mem_base.specs.declared.limits.TheConstants.{MAX_OPS, MAX_REACH}
+use Rattle.mem_base.specs.declared.limits.TheConstants.{MAX_OPS, MAX_REACH, MAX_REFUSAL}
 use Rattle.mem_base.specs.declared.trace.Letter.{Letter}
 use Rattle.mem_base.specs.declared.trace.Letter.TheVariants.{Raw, Mem, Obj}
-use Rattle.trace_model.specs.Plain.{Name, Action, acquire, release, malloc, free, poke, peek, PlainTrack, PlainTrace}
-use Rattle.trace_model.specs.Spelling.{blank, line_end, is_between, is_name, is_forged, letter_word, action_count, header}
+use Rattle.mem_base.specs.declared.trace.Side.{Side}
+use Rattle.mem_base.specs.declared.trace.Side.TheVariants as sides
+use Rattle.trace_model.specs.Plain.{Name, Action, acquire, release, malloc, free, poke, peek, refuse, PlainTrack, PlainTrace}
+use Rattle.trace_model.specs.Spelling.{blank, line_end, is_between, is_name, is_forged, letter_word, side_word, action_count, header}
 use Rattle.trace_model.specs.declared.cause.TraceCause.{TraceCause}
 use Rattle.trace_model.specs.declared.cause.TraceCause.TheVariants.{BadEnd, BadHeader, BadByte, UnknownWord, Misplaced, BadWords, BadNumber, BadHex, BadName, BadRange, ForgedLetter, SameTrack, TooMany}
 use Rattle.trace_model.specs.declared.keyword.Keyword.{Keyword}
@@ -44,11 +46,19 @@ unfoldable pub offset_at : List ℕ → Result ℤ TraceCause
 offset_at [] = Err BadNumber
 offset_at (c ∷ cs) = if c == 45 then number_at cs >>= backward_at else number_at (c ∷ cs) >>= forward_at
 
--- how many bytes are read
-unfoldable pub count_at : List ℕ → Result ℕ TraceCause
-count_at w = do
+-- a number from least to most
+unfoldable pub number_in : ℕ → ℕ → List ℕ → Result ℕ TraceCause
+number_in least most w = do
   n ← number_at w
-  if is_between 1 MAX_REACH n then Ok n else Err BadRange
+  if is_between least most n then Ok n else Err BadRange
+
+-- how many bytes are read
+abbrev pub count_at : List ℕ → Result ℕ TraceCause
+count_at w = number_in 1 MAX_REACH w
+
+-- the number of the request that is refused, counted from the next one on
+abbrev pub refusal_at : List ℕ → Result ℕ TraceCause
+refusal_at w = number_in 1 MAX_REFUSAL w
 
 abbrev pub name_at : List ℕ → Result (Unit {0}) TraceCause
 name_at w = if is_name w then Ok tt else Err BadName
@@ -59,6 +69,10 @@ letter_at w =
     else if bytes_eq w (letter_word Mem) then Ok Mem
     else if bytes_eq w (letter_word Obj) then Ok Obj
     else Err UnknownWord
+
+-- the source that refuses: until there are arenas, that of raw memory alone
+unfoldable pub side_at : List ℕ → Result Side TraceCause
+side_at w = if bytes_eq w (side_word sides.Raw) then Ok sides.Raw else Err UnknownWord
 
 -- the value of a hexadecimal digit
 abbrev pub digit_of : ℕ → Option ℕ
@@ -92,6 +106,7 @@ keyword_text keys.Malloc = codes "malloc"
 keyword_text keys.Free = codes "free"
 keyword_text keys.Poke = codes "poke"
 keyword_text keys.Peek = codes "peek"
+keyword_text keys.Refuse = codes "refuse"
 
 abbrev pub keyword_at : List ℕ → Result Keyword TraceCause
 keyword_at w =
@@ -102,6 +117,7 @@ keyword_at w =
     else if bytes_eq w (keyword_text keys.Free) then Ok keys.Free
     else if bytes_eq w (keyword_text keys.Poke) then Ok keys.Poke
     else if bytes_eq w (keyword_text keys.Peek) then Ok keys.Peek
+    else if bytes_eq w (keyword_text keys.Refuse) then Ok keys.Refuse
     else Err UnknownWord
 
 -- a poke, unless it would write a domain's letter
@@ -137,6 +153,12 @@ peek_at name offset count = do
   n ← count_at count
   Ok (peek name o n)
 
+unfoldable pub refuse_at : List ℕ → List ℕ → Result Action TraceCause
+refuse_at side number = do
+  s ← side_at side
+  n ← refusal_at number
+  Ok (refuse s n)
+
 -- the operation that a keyword and its operands give
 unfoldable pub action_at : Keyword → List (List ℕ) → Result Action TraceCause
 action_at keys.Track ws = Err UnknownWord
@@ -152,6 +174,8 @@ action_at keys.Poke (name ∷ offset ∷ digits ∷ []) = poke_at name offset di
 action_at keys.Poke ws = Err BadWords
 action_at keys.Peek (name ∷ offset ∷ count ∷ []) = peek_at name offset count
 action_at keys.Peek ws = Err BadWords
+action_at keys.Refuse (side ∷ number ∷ []) = refuse_at side number
+action_at keys.Refuse ws = Err BadWords
 
 abbrev pub is_track : Keyword → Bool
 is_track keys.Track = true

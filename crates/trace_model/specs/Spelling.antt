@@ -3,11 +3,13 @@ use Rattle.std.specs.Prelude.{◌≡◌, ℕ, ◌+◌, ◌/◌, ◌%◌, ◌^◌
 use Rattle.std.specs.List.{AllByRecursion, flat_map, list_all, join_with_byte}
 use Rattle.std.specs.Fmt.{signed_decimal}
 use Rattle.block_model.specs.Block.{IsOffset}
-use Rattle.mem_base.specs.declared.limits.TheConstants.{MAX_NAME, MAX_OPS, MAX_REACH}
+use Rattle.mem_base.specs.declared.limits.TheConstants.{MAX_NAME, MAX_OPS, MAX_REACH, MAX_REFUSAL}
 use Rattle.mem_base.specs.declared.trace.Letter.{Letter}
 use Rattle.mem_base.specs.declared.trace.Letter.TheVariants.{Raw, Mem, Obj}
+use Rattle.mem_base.specs.declared.trace.Side.{Side}
+use Rattle.mem_base.specs.declared.trace.Side.TheVariants as sides
 use Rattle.mem_base.specs.Letter.{letter_byte}
-use Rattle.trace_model.specs.Plain.{Name, Action, acquire, release, malloc, free, poke, peek, other, PlainTrack, PlainTrace}
+use Rattle.trace_model.specs.Plain.{Name, Action, acquire, release, malloc, free, poke, peek, refuse, other, PlainTrack, PlainTrace}
 
 -- what parts the words of a line
 abbrev pub blank : ℕ
@@ -22,6 +24,11 @@ line_end = 10
 -- the letter of a domain
 abbrev pub letter_word : Letter → List ℕ
 letter_word letter = letter_byte letter ∷ []
+
+-- the word of a memory source
+abbrev pub side_word : Side → List ℕ
+side_word sides.Arena = codes "arena"
+side_word sides.Raw = codes "raw"
 
 -- a hexadecimal digit
 abbrev pub glyph : ℕ → ℕ
@@ -52,6 +59,7 @@ words_of (malloc letter name size) = codes "malloc" ∷ letter_word letter ∷ n
 words_of (free letter name) = codes "free" ∷ letter_word letter ∷ name ∷ []
 words_of (poke name offset bytes) = codes "poke" ∷ name ∷ signed_decimal offset ∷ hex_word bytes ∷ []
 words_of (peek name offset count) = codes "peek" ∷ name ∷ signed_decimal offset ∷ decimal count ∷ []
+words_of (refuse side number) = codes "refuse" ∷ side_word side ∷ decimal number ∷ []
 words_of other = []
 
 -- the line of an operation, without its end
@@ -98,6 +106,9 @@ Fits (malloc letter name size) = IsTrue (is_name name) × (size < 2 ^ 64)
 Fits (free letter name) = IsTrue (is_name name)
 Fits (poke name offset bytes) = IsTrue (is_name name) × IsOffset offset × AllByRecursion (λ b. b < 256) bytes × (1 ≤ length bytes) × (length bytes ≤ MAX_REACH) × (is_forged offset bytes ≡ false)
 Fits (peek name offset count) = IsTrue (is_name name) × IsOffset offset × (1 ≤ count) × (count ≤ MAX_REACH)
+Fits (refuse sides.Raw number) = (1 ≤ number) × (number ≤ MAX_REFUSAL)
+-- until there are arenas, no request for one can be refused
+Fits (refuse sides.Arena number) = ⊥
 Fits other = ⊥
 
 pub record FitsTrack (t : PlainTrack) : Type 0 where

@@ -8,4 +8,5 @@ pub enum Keyword {
     Free,
     Poke,
     Peek,
+    Refuse,
 }

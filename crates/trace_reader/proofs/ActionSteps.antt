@@ -30,6 +30,7 @@ by_action t keys.Malloc ws other = refl
 by_action t keys.Free ws other = refl
 by_action t keys.Poke ws other = refl
 by_action t keys.Peek ws other = refl
+by_action t keys.Refuse ws other = refl
 
 module _ (texts news : List Name) (name : TextId) (ops : List Op) (op : Op) (grows : Extends texts news) (known : IsKnownSoFar texts (Some name) ops) where
   count_is : action_count (so_far texts (Some name) ops).tracks ≡ length ops

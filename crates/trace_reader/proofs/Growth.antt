@@ -7,7 +7,8 @@ use Rattle.std.proofs.lemmas.Option.{slice_get_within}
 use Rattle.mem_base.specs.Texts.{interned}
 use Rattle.mem_base.specs.declared.texts.TextId.{TextId}
 use Rattle.mem_base.specs.declared.trace.Op.{Op}
-use Rattle.mem_base.specs.declared.trace.Op.TheVariants.{Acquire, Release, Malloc, Free, Poke, Peek}
+use Rattle.mem_base.specs.declared.trace.Op.TheVariants.{Acquire, Release, Malloc, Free, Poke, Peek, Refuse}
+use Rattle.mem_base.specs.declared.trace.Side.TheVariants as sides
 use Rattle.trace_model.specs.Plain.{Name, malloc, free, poke, peek, text_at, action_of}
 use Rattle.trace_model.specs.Known.{IsKnown, IsKnownOp}
 use Rattle.trace_reader.specs.Progress.{Extends, so_far, IsKnownSoFar}
@@ -41,6 +42,7 @@ action_stays texts more (Malloc letter name size) known = ap (λ (n : Name). mal
 action_stays texts more (Free letter name) known = ap (λ (n : Name). free letter n) (text_stays texts more name known)
 action_stays texts more (Poke name offset bytes) known = ap (λ (n : Name). poke n offset bytes) (text_stays texts more name known.0)
 action_stays texts more (Peek name offset count) known = ap (λ (n : Name). peek n offset count) (text_stays texts more name known.0)
+action_stays texts more (Refuse side number) known = refl
 action_stays texts more op known = absurd known
 
 op_stays : (texts more : List Name) (op : Op) → IsKnownOp texts op → IsKnownOp (texts ++ more) op
@@ -50,6 +52,7 @@ op_stays texts more (Malloc letter name size) known = known_stays texts more nam
 op_stays texts more (Free letter name) known = known_stays texts more name known
 op_stays texts more (Poke name offset bytes) known = (known_stays texts more name known.0, known.1, known.2, known.3)
 op_stays texts more (Peek name offset count) known = (known_stays texts more name known.0, known.1, known.2, known.3)
+op_stays texts more (Refuse sides.Raw number) known = known
 op_stays texts more op known = absurd known
 
 pub actions_stay : (texts more : List Name) (ops : List Op) → AllByRecursion (IsKnownOp texts) ops → map (action_of (texts ++ more)) ops ≡ map (action_of texts) ops

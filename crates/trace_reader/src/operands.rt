@@ -2,12 +2,12 @@ ghost use Rattle.std.specs.Prelude.{◌≡◌, ◌*◌, ◌+◌, ◌-◌, ◌^�
 ghost use Rattle.std.specs.List.{list_all};
 ghost use Rattle.block_model.specs.Block.{IsOffset};
 ghost use Rattle.trace_model.specs.Spelling.{is_between, is_name_byte};
-ghost use Rattle.trace_model.specs.Reading.{digits_from, number_at, offset_at, forward_at, backward_at, count_at, name_at, letter_at, hex_from, hex_at, keyword_at, digit_of};
+ghost use Rattle.trace_model.specs.Reading.{digits_from, number_at, offset_at, forward_at, backward_at, number_in, count_at, refusal_at, name_at, letter_at, side_at, hex_from, hex_at, keyword_at, digit_of};
 ghost use Rattle.trace_reader.specs.Answers.{Gives};
 
 use crate::error::LineError;
-use mem_base::limits::{MAX_NAME, MAX_REACH};
-use mem_base::{Letter, List};
+use mem_base::limits::{MAX_NAME, MAX_REACH, MAX_REFUSAL};
+use mem_base::{Letter, List, Side};
 use std::alloc::Global;
 use trace_model::{Keyword, TraceCause};
 
@@ -29,6 +29,8 @@ pub fn read_keyword(word: &[u8]) -> Result<Keyword, TraceCause>
         Ok(Keyword::Poke)
     } else if word == b"peek".as_slice() {
         Ok(Keyword::Peek)
+    } else if word == b"refuse".as_slice() {
+        Ok(Keyword::Refuse)
     } else {
         Err(TraceCause::UnknownWord)
     }
@@ -104,17 +106,33 @@ pub fn offset(word: &[u8]) -> Result<i64, TraceCause>
     }
 }
 
+// A number from `least` to `most`.
+#[tactic(auto, unfolding(trace_model::specs::Reading::number_in))]
+fn number_in(word: &[u8], least: u64, most: u64) -> Result<u64, TraceCause>
+    ensures value { result ≡ number_in least most word.now }
+    ensures range { IfOk result (λ n. (least ≤ n) × (n ≤ most)) }
+{
+    let value = number(word)?;
+    if value < least || value > most {
+        return Err(TraceCause::BadRange);
+    }
+    Ok(value)
+}
+
 /// How many bytes are read.
-#[tactic(auto, unfolding(trace_model::specs::Reading::count_at))]
 pub fn count(word: &[u8]) -> Result<u64, TraceCause>
     ensures value { result ≡ count_at word.now }
     ensures range { IfOk result (λ n. (1 ≤ n) × (n ≤ MAX_REACH)) }
 {
-    let value = number(word)?;
-    if value < 1 || value > MAX_REACH {
-        return Err(TraceCause::BadRange);
-    }
-    Ok(value)
+    number_in(word, 1, MAX_REACH)
+}
+
+/// The number of the request that is refused, counted from the next one on.
+pub fn refusal(word: &[u8]) -> Result<u64, TraceCause>
+    ensures value { result ≡ refusal_at word.now }
+    ensures range { IfOk result (λ n. (1 ≤ n) × (n ≤ MAX_REFUSAL)) }
+{
+    number_in(word, 1, MAX_REFUSAL)
 }
 
 fn is_name_byte(b: u8) -> bool
@@ -154,6 +172,19 @@ pub fn letter(word: &[u8]) -> Result<Letter, TraceCause>
         Ok(Letter::Mem)
     } else if word == b"o".as_slice() {
         Ok(Letter::Obj)
+    } else {
+        Err(TraceCause::UnknownWord)
+    }
+}
+
+/// The source that refuses. Until there are arenas, it is that of raw memory.
+#[tactic(auto, unfolding(trace_model::specs::Reading::side_at))]
+pub fn side(word: &[u8]) -> Result<Side, TraceCause>
+    ensures value { result ≡ side_at word.now }
+    ensures raw { IfOk result (λ s. s ≡ Side.Raw) }
+{
+    if word == b"raw".as_slice() {
+        Ok(Side::Raw)
     } else {
         Err(TraceCause::UnknownWord)
     }

@@ -1,14 +1,14 @@
 ghost use Rattle.std.specs.Prelude.{◌≡◌, ◌-◌, ◌<◌, ◌^◌, length, map, IfOk, slice_get, Some, Ok, Err, false, if◌then◌else◌};
-ghost use Rattle.trace_model.specs.Plain.{action_of};
+ghost use Rattle.trace_model.specs.Plain.{Name, action_of};
 ghost use Rattle.trace_model.specs.Known.{IsKnown, IsKnownOp};
 ghost use Rattle.trace_model.specs.Spelling.{is_forged};
-ghost use Rattle.trace_model.specs.Reading.{malloc_at, free_at, poke_at, peek_at, action_at, is_track};
+ghost use Rattle.trace_model.specs.Reading.{malloc_at, free_at, poke_at, peek_at, refuse_at, action_at, is_track};
 ghost use Rattle.trace_model.specs.declared.cause.TraceCause.TheVariants.{ForgedLetter};
 ghost use Rattle.trace_reader.specs.Answers.{Gives};
 ghost use Rattle.trace_reader.specs.Progress.{Extends};
 
 use crate::error::LineError;
-use crate::operands::{count, hex, letter, name, number, offset};
+use crate::operands::{count, hex, letter, name, number, offset, refusal, side};
 use mem_base::{List, Op, TextId, Texts};
 use std::alloc::{AllocError, Global};
 use trace_model::{Keyword, TraceCause};
@@ -92,6 +92,16 @@ fn peek(texts: &mut Texts, block: &[u8], at: &[u8], size: &[u8]) -> Result<Op, L
     Ok(Op::Peek(intern(texts, block)?, at, size))
 }
 
+// It names no block, so it is the same with every table.
+#[tactic(auto, unfolding(trace_model::specs::Reading::refuse_at))]
+fn refuse(source: &[u8], request: &[u8]) -> Result<Op, LineError>
+    ensures op { (texts : List Name) → Gives (action_of texts) result (refuse_at source.now request.now) }
+    ensures known { IfOk result (λ op. (texts : List Name) → IsKnownOp texts op) }
+{
+    let source = side(source)?;
+    Ok(Op::Refuse(source, refusal(request)?))
+}
+
 /// The operation that the words after the keyword name.
 #[tactic(auto, unfolding(trace_model::specs::Reading::action_at))]
 pub fn read_op(
@@ -113,6 +123,7 @@ pub fn read_op(
         (Keyword::Free, [domain, block]) => free(texts, domain, block),
         (Keyword::Poke, [block, at, digits]) => poke(alloc, texts, block, at, digits),
         (Keyword::Peek, [block, at, size]) => peek(texts, block, at, size),
+        (Keyword::Refuse, [source, request]) => refuse(source, request),
         _ => Err(LineError::Wrong(TraceCause::BadWords)),
     }
 }

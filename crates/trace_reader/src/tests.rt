@@ -1,5 +1,5 @@
 use super::{TraceCause, TraceError, read_trace};
-use mem_base::{Letter, List, Op, TextId};
+use mem_base::{Letter, List, Op, Side, TextId};
 use std::alloc::{AllocError, Global};
 use std::test::Fail;
 
@@ -8,7 +8,7 @@ use std::test::Fail;
 fn reads_each_operation(rt: HostRuntime) -> Result<(), Fail> {
     let text = "pymtrace 1\ntrack t\nacquire\nmalloc r a 0\nmalloc m b 18446744073709551615\n\
         malloc o C_9 16\npoke a -8 ff\npoke b 9223372036854775807 00a9\npeek C_9 -1 1024\n\
-        free m b\nrelease\n";
+        free m b\nrefuse raw 1\nrefuse raw 1000000\nrelease\n";
     let trace = read_trace(rt.alloc(), text.as_bytes())?;
     let (a, b, c) = (TextId(2), TextId(3), TextId(4));
     let mut ops = List::new(rt.alloc());
@@ -20,6 +20,8 @@ fn reads_each_operation(rt: HostRuntime) -> Result<(), Fail> {
     ops.push(Op::Poke(b, i64::MAX, List::from_slice(rt.alloc(), &[0, 169])?))?;
     ops.push(Op::Peek(c, -1, 1024))?;
     ops.push(Op::Free(Letter::Mem, b))?;
+    ops.push(Op::Refuse(Side::Raw, 1))?;
+    ops.push(Op::Refuse(Side::Raw, 1_000_000))?;
     ops.push(Op::Release)?;
     assert_eq!(rt; trace.tracks.len(), 1);
     assert_eq!(rt; trace.picks.len(), 0);
@@ -81,6 +83,12 @@ fn refuses_a_third_line(rt: HostRuntime) -> Result<(), Fail> {
         ("poke x 0 0A\n", TraceCause::BadHex),
         ("poke x -8 6d\n", TraceCause::ForgedLetter),
         ("peek x 0 1025\n", TraceCause::BadRange),
+        ("refuse arena 1\n", TraceCause::UnknownWord),
+        ("refuse raw 0\n", TraceCause::BadRange),
+        ("refuse raw 1000001\n", TraceCause::BadRange),
+        ("refuse raw 01\n", TraceCause::BadNumber),
+        ("refuse raw\n", TraceCause::BadWords),
+        ("refuse arena 01\n", TraceCause::UnknownWord),
         ("track t\n", TraceCause::SameTrack),
         ("track u\n", TraceCause::TooMany),
     ] {

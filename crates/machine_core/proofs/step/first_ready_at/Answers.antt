@@ -1,4 +1,4 @@
-use Rattle.std.proofs.Common.{◌<◌, ◌≤◌, inl, inr, length, arith}
+use Rattle.std.proofs.Common.{inl, inr, length, arith}
 use Rattle.std.proofs.lemmas.Bool.{cases_lt}
 use Rattle.machine_core.proofs.StepLemmas.{none_past}
 use Rattle.machine_core.proofs.step.first_ready_at.Goals as goal

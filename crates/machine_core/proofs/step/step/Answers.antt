@@ -1,56 +1,60 @@
-use Rattle.std.proofs.Common.{◌≡◌, ℕ, ◌+◌, ◌<◌, List, Some, refl, sym, ap, ◌∙◌, arith, subst, set}
-use Rattle.std.specs.Prelude.{slice_index, if◌then◌else◌}
+use Rattle.std.proofs.Common.{List, sym, ap, ◌∙◌, arith, subst}
+use Rattle.mem_base.specs.declared.history.Ask.{Ask}
 use Rattle.mem_base.specs.declared.history.Entry.{Entry}
-use Rattle.trace_model.specs.Plain.{action_of, plain}
-use Rattle.event_model.specs.Effects.{effect}
-use Rattle.event_model.specs.Events.{let_go, is_fault}
-use Rattle.event_model.specs.History.{last_state}
-use Rattle.machine_core.specs.Change.{changed}
+use Rattle.machine_core.specs.Acts.{Acts}
 use Rattle.machine_core.specs.Reply.{plain_reply}
+use Rattle.machine_core.specs.Slots.{bodies_of}
 use Rattle.machine_core.specs.Stands.{Stands}
-use Rattle.machine_core.proofs.StepLemmas.{here_is, stands_then, reply_is, is_next, undone}
+use Rattle.machine_core.proofs.StepLemmas.{here_is, stands_then, reply_is, is_next, requests_are, redone}
 use Rattle.machine_core.proofs.step.step.Goals as goal
 
 pub settle-requires-clause-fits : goal.settle-requires-clause-fits
-settle-requires-clause-fits c =
-    let known = c.requires.stands.known.ops c.args.t c.index-at.result.now c.in-Some.op.now (sym c.in-Some.ensures) in
-    let here = here_is c.args.trace.now c.args.history.now.entries c.args.store.now c.args.owner.now c.args.done.now.items c.args.faulted.now c.args.t c.index-at.result.now c.in-Some.op.now
-    c.in-Ok.change (plain_reply c.in-Ok.reply) c.requires.stands c.index-at.ensures (sym c.in-Some.ensures) in
+settle-requires-clause-fits g c =
+    let op = c.in-Some.op.now in
+    let known = c.requires.stands.known.ops c.args.t c.index-at.result.now op (sym c.in-Some.ensures) in
+    let here = here_is c.args.trace.now c.args.history.now.entries (bodies_of c.args.store.now.slots.items) c.args.owner.now c.args.done.now.items c.args.faulted.now c.args.t c.index-at.result.now op
+    c.requires.stands c.index-at.ensures (sym c.in-Some.ensures) in
     omega (arith, known.1, here)
 
 pub returns-in-Ok-clause-stands : goal.returns-in-Ok-clause-stands
-returns-in-Ok-clause-stands c =
+returns-in-Ok-clause-stands g c =
     let trace = c.args.trace.now in
-    let s = last_state (plain trace).tracks c.args.history.now.entries in
-    let does : effect s c.args.t (action_of trace.texts c.in-Some.op.now) ≡ (changed trace.texts s c.in-Ok.change, plain_reply c.in-Ok.reply) =
-    c.in-Ok.ensures.does trace.texts s c.requires.stands.blocks_are (sym c.requires.stands.owner_is) in
-    subst (λ (es : List Entry). Stands trace es c.make.new.store c.settle.new.owner c.settle.new.done.items c.settle.new.faulted) (sym c.in_ok-push.ensures.ok)
-    (stands_then trace c.args.history.now.entries c.args.store.now c.args.owner.now c.args.done.now.items c.args.faulted.now c.args.t c.index-at.result.now c.in-Some.op.now
-    c.in-Ok.change (plain_reply c.in-Ok.reply) c.requires.stands c.index-at.ensures (sym c.in-Some.ensures) does
-    _ refl refl refl refl c.requires.ready c.requires.sound c.in-Ok.ensures.may c.make.new.store c.make.ensures.store c.settle.new.owner
-    (c.settle.ensures.owner ∙ (λ i. if is_fault (plain_reply c.in-Ok.reply) then c.make.ensures.owner i
-    else let_go (plain trace).tracks c.args.t (slice_index c.args.done.now.items c.args.t + 1) (c.make.ensures.owner i)))
-    c.settle.new.done.items c.settle.ensures.done c.settle.new.faulted c.settle.ensures.faulted)
+    let es = c.args.history.now.entries in
+    let slots = bodies_of c.args.store.now.slots.items in
+    let news = bodies_of c.act.new.store.slots.items in
+    let e = c.entry_of-entry.result in
+    let reply = plain_reply c.in-Ok.field-0.reply in
+    let acts = subst (λ (a : Ask). Acts c.args.t c.in-Some.op.now slots news c.args.owner.now c.act.new.owner a reply) (sym (ap (λ (x : Entry). x.raw) c.entry_of-entry.ensures)) c.in-Ok.ensures.acts in
+    subst (λ (l : List Entry). Stands trace l news c.settle.new.owner c.settle.new.done.items c.settle.new.faulted)
+    (sym (redone es c.push.new.self c.set_last.new.self c.entry_of.result e c.in_ok-push.ensures.ok c.set_last.ensures))
+    (stands_then trace es slots c.args.owner.now c.args.done.now.items c.args.faulted.now c.args.t c.index-at.result.now c.in-Some.op.now
+    c.requires.stands c.index-at.ensures (sym c.in-Some.ensures) e (ap (λ (x : Entry). x.track) c.entry_of-entry.ensures) news c.act.new.owner reply acts
+    (ap (λ (x : Entry). x.at) c.entry_of-entry.ensures) (ap (λ (x : Entry). x.arena) c.entry_of-entry.ensures ∙ c.in-Ok.ensures.arena) c.requires.ready c.requires.sound
+    c.settle.new.owner c.settle.ensures.owner c.settle.new.done.items c.settle.ensures.done c.settle.new.faulted c.settle.ensures.faulted)
 
 pub returns-in-Ok-clause-step : goal.returns-in-Ok-clause-step
-returns-in-Ok-clause-step c =
+returns-in-Ok-clause-step g c =
     let trace = c.args.trace.now in
-    let s = last_state (plain trace).tracks c.args.history.now.entries in
-    let does : effect s c.args.t (action_of trace.texts c.in-Some.op.now) ≡ (changed trace.texts s c.in-Ok.change, plain_reply c.in-Ok.reply) =
-    c.in-Ok.ensures.does trace.texts s c.requires.stands.blocks_are (sym c.requires.stands.owner_is) in
+    let es = c.args.history.now.entries in
+    let slots = bodies_of c.args.store.now.slots.items in
+    let news = bodies_of c.act.new.store.slots.items in
+    let e = c.entry_of-entry.result in
+    let reply = plain_reply c.in-Ok.field-0.reply in
+    let track = ap (λ (x : Entry). x.track) c.entry_of-entry.ensures in
+    let acts = subst (λ (a : Ask). Acts c.args.t c.in-Some.op.now slots news c.args.owner.now c.act.new.owner a reply) (sym (ap (λ (x : Entry). x.raw) c.entry_of-entry.ensures)) c.in-Ok.ensures.acts in
     record {
-      track = refl;
-      next = is_next trace c.args.history.now.entries c.args.store.now c.args.owner.now c.args.done.now.items c.args.faulted.now c.args.t c.index-at.result.now c.in-Some.op.now
-          c.in-Ok.change (plain_reply c.in-Ok.reply) c.requires.stands c.index-at.ensures (sym c.in-Some.ensures) does _ refl refl refl refl c.requires.ready c.requires.sound;
-      grows = ap (λ (es : List Entry). record { trace = trace; entries = es }) c.in_ok-push.ensures.ok;
-      reply = reply_is trace c.args.history.now.entries c.args.store.now c.args.owner.now c.args.done.now.items c.args.faulted.now c.args.t c.index-at.result.now c.in-Some.op.now
-          c.in-Ok.change (plain_reply c.in-Ok.reply) c.requires.stands c.index-at.ensures (sym c.in-Some.ensures) does _ refl;
+      track = track;
+      next = is_next trace es slots c.args.owner.now c.args.done.now.items c.args.faulted.now c.args.t c.index-at.result.now c.in-Some.op.now
+          c.requires.stands c.index-at.ensures (sym c.in-Some.ensures) e track news c.act.new.owner reply acts
+          (ap (λ (x : Entry). x.at) c.entry_of-entry.ensures) (ap (λ (x : Entry). x.arena) c.entry_of-entry.ensures ∙ c.in-Ok.ensures.arena) c.requires.ready c.requires.sound;
+      grows = redone es c.push.new.self c.set_last.new.self c.entry_of.result e c.in_ok-push.ensures.ok c.set_last.ensures;
+      reply = reply_is trace es slots c.args.owner.now c.args.done.now.items c.args.faulted.now c.args.t c.index-at.result.now c.in-Some.op.now
+          c.requires.stands c.index-at.ensures (sym c.in-Some.ensures) e track news c.act.new.owner reply acts;
     }
 
-pub returns-in-Err-clause-err : goal.returns-in-Err-clause-err
-returns-in-Err-clause-err c = undone c.args.history.now.entries c.push.new.self c.pop-entry.new.self _ c.in_ok-push.ensures.ok c.pop-entry.ensures.rest
-
-pub returns-in-Err-clause-stands : goal.returns-in-Err-clause-stands
-returns-in-Err-clause-stands c =
-    subst (λ (es : List Entry). Stands c.args.trace.now es c.args.store.now c.args.owner.now c.args.done.now.items c.args.faulted.now)
-    (sym (undone c.args.history.now.entries c.push.new.self c.pop-entry.new.self _ c.in_ok-push.ensures.ok c.pop-entry.ensures.rest)) c.requires.stands
+pub returns-in-Ok-clause-asks : goal.returns-in-Ok-clause-asks
+returns-in-Ok-clause-asks g c =
+    requests_are c.args.trace.now c.args.history.now.entries (bodies_of c.args.store.now.slots.items) c.args.owner.now c.args.done.now.items c.args.faulted.now c.args.t c.index-at.result.now c.in-Some.op.now
+    c.requires.stands c.index-at.ensures (sym c.in-Some.ensures) c.entry_of-entry.result c.in-Ok.field-0.asked.raw
+    c.args.store.now.domains.raws c.act.new.store.domains.raws (g.R.RawSource.seen c.args.raws.now) (g.R.RawSource.seen c.act.new.raws)
+    (ap (λ (x : Entry). x.track) c.entry_of-entry.ensures) (ap (λ (x : Entry). x.raw) c.entry_of-entry.ensures) c.in-Ok.ensures.asks

@@ -1,11 +1,10 @@
 use Rattle.std.proofs.Common.{◌≡◌, ◌≤◌, replicate, None}
 use Rattle.std.specs.Prelude.{vec_len, vec_capacity}
-use Rattle.machine_core.specs.Slots.{bodies_of}
 use Rattle.machine_core.proofs.store.empty_slots.Given as goal
 
 abbrev pub invariant-loop : goal.invariant-loop
 invariant-loop l = record {
-  empty : bodies_of l.slots.items ≡ replicate l.counter None;
+  empty : l.slots.items ≡ replicate l.counter None;
   long : vec_len l.slots ≡ l.counter;
   room : l.count ≤ vec_capacity l.slots;
 }

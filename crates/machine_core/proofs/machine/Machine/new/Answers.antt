@@ -1,9 +1,11 @@
-use Rattle.std.proofs.Common.{ap, ◌∙◌, ℕ, Option, None, replicate}
-use Rattle.block_model.specs.Block.{Body}
-use Rattle.machine_core.proofs.StepLemmas.{opening_stands}
+use Rattle.std.proofs.Common.{ap, ◌∙◌, ℕ, None, replicate}
+use Rattle.machine_core.specs.Slots.{bodies_of}
+use Rattle.machine_core.proofs.StepLemmas.{opening_stands, bodies_none}
 use Rattle.machine_core.proofs.machine.Machine.new.Goals as goal
 
 pub invariant_of-result : goal.invariant_of-result
-invariant_of-result c =
-    opening_stands c.args.trace c.new-2.result c.in_ok-store.store c.in_ok-done.done.items c.len-2.ensures.table.distinct c.requires c.new-2.ensures
-    (c.in_ok-store.ensures ∙ ap (λ (n : ℕ). replicate {A = Option Body} n None) c.len-2.ensures.count) (c.in_ok-done.ensures ∙ ap (λ (n : ℕ). replicate n 0) c.len.ensures)
+invariant_of-result c = record {
+  stands = opening_stands c.args.trace c.new-2.result (bodies_of c.in_ok-store.store.slots.items) c.in_ok-done.done.items c.len-2.ensures.table c.requires c.new-2.ensures
+      (ap bodies_of c.in_ok-store.ensures.slots ∙ bodies_none c.len-2.result ∙ ap (λ (n : ℕ). replicate n None) c.len-2.ensures.count) (c.in_ok-done.ensures ∙ ap (λ (n : ℕ). replicate n 0) c.len.ensures);
+  stored = c.in_ok-store.ensures.stored;
+}

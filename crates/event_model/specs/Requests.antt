@@ -1,0 +1,85 @@
+-- Which operations ask a source, and how many requests and refusals a history has.
+use Rattle.std.specs.Prelude.{ℕ, ◌+◌, Bool, true, false, List, [], ◌∷◌, Option, Some, None}
+use Rattle.mem_base.specs.declared.trace.Side.{Side}
+use Rattle.mem_base.specs.declared.trace.Side.TheVariants as side
+use Rattle.mem_base.specs.declared.history.Entry.{Entry}
+use Rattle.mem_base.specs.declared.history.Grant.{Grant}
+use Rattle.mem_base.specs.declared.history.Grant.TheVariants as grant
+use Rattle.mem_base.specs.declared.history.Ask.{Ask}
+use Rattle.mem_base.specs.declared.history.Ask.TheVariants as ask
+use Rattle.trace_model.specs.Plain.{Action, malloc}
+use Rattle.block_model.specs.Block.{Body}
+use Rattle.event_model.specs.Blocks.{find}
+use Rattle.event_model.specs.Effects.{State, Decision, asks, decision, is_owner}
+
+-- ---- who asks
+
+-- malloc asks the raw source for a block: the name is free, and the request comes that far
+abbrev pub malloc_asks : Option Body → Decision → Bool
+malloc_asks None asks = true
+malloc_asks now d = false
+
+-- whether an operation of track t asks the raw source
+abbrev pub asks_raw : State → ℕ → Action → Bool
+asks_raw s t (malloc v name n) = malloc_asks (find s.blocks name) (decision v n (is_owner s.owner t))
+asks_raw s t a = false
+
+-- the same of the track's next operation, where there is one
+abbrev pub next_asks : State → ℕ → Option Action → Bool
+next_asks s t None = false
+next_asks s t (Some a) = asks_raw s t a
+
+-- ---- answers
+
+-- whether the answer is one to a request
+abbrev pub was_asked : Ask → Bool
+was_asked ask.NotAsked = false
+was_asked ask.Refused = true
+was_asked ask.Granted = true
+
+abbrev pub is_refused : Ask → Bool
+is_refused ask.NotAsked = false
+is_refused ask.Refused = true
+is_refused ask.Granted = false
+
+-- how many requests an answer of the raw source is to, and how many refusals it is
+abbrev pub raw_asks : Ask → ℕ
+raw_asks ask.NotAsked = 0
+raw_asks ask.Refused = 1
+raw_asks ask.Granted = 1
+
+abbrev pub raw_refusals : Ask → ℕ
+raw_refusals ask.NotAsked = 0
+raw_refusals ask.Refused = 1
+raw_refusals ask.Granted = 0
+
+-- the same of an answer of the arena source
+abbrev pub arena_asks : Grant → ℕ
+arena_asks grant.NotAsked = 0
+arena_asks grant.Refused = 1
+arena_asks (grant.Granted pools) = 1
+
+abbrev pub arena_refusals : Grant → ℕ
+arena_refusals grant.NotAsked = 0
+arena_refusals grant.Refused = 1
+arena_refusals (grant.Granted pools) = 0
+
+-- how many requests of a source an entry is
+abbrev pub asks_in : Side → Entry → ℕ
+asks_in side.Arena e = arena_asks e.arena
+asks_in side.Raw e = raw_asks e.raw
+
+-- how many refusals of a source
+abbrev pub refusals_in : Side → Entry → ℕ
+refusals_in side.Arena e = arena_refusals e.arena
+refusals_in side.Raw e = raw_refusals e.raw
+
+-- how many requests of a source a history made
+abbrev pub asked_in : Side → List Entry → ℕ
+asked_in side [] = 0
+asked_in side (e ∷ es) = asks_in side e + asked_in side es
+
+-- how many of them were refused
+abbrev pub refused_in : Side → List Entry → ℕ
+refused_in side [] = 0
+refused_in side (e ∷ es) = refusals_in side e + refused_in side es

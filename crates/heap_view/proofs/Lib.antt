@@ -1,0 +1,14 @@
+pub mod Picks
+pub mod Pools
+pub mod Orderly
+pub mod Useds
+pub mod Numbered
+pub mod Places
+pub mod Placed
+pub mod Unplaced
+pub mod Returned
+pub mod Empty
+pub mod Ground
+pub mod Members
+pub mod Steps
+pub mod Counts

@@ -1,0 +1,247 @@
+-- The memory of the blocks in slots, as a block comes or goes.
+use Rattle.std.proofs.Common.{◌≡◌, ℕ, zero, suc, ◌+◌, ◌<◌, ◌≤◌, List, [], ◌∷◌, ◌++◌, length, get_or, set, replicate, Option, Some, None, refl, sym, ap, subst, ◌∙◌, arith, inl, inr, length-append, true≢false}
+use Rattle.std.specs.Option.{option_map}
+use Rattle.std.specs.Prelude.{◌%◌, IfSome, IfNone, IsSome}
+use Rattle.std.proofs.lemmas.Bool.Decides.{eqb_tells}
+use Rattle.std.proofs.lemmas.List.{get_or-set_same, get_or-set_other, set-get_or}
+use Rattle.std.specs.Int.{to_be_bytes, w64}
+use Rattle.block_model.specs.Block.{image_of, size_of}
+use Rattle.extents.specs.Extent.{Extent, AreApart, covers}
+use Rattle.extents.specs.Sums.{tally, AllIn, Has, Inserted, Removed}
+use Rattle.extents.proofs.Addresses.{all_in_fewer}
+use Rattle.extents.proofs.Lists.{all_in_more, inserted_first, inserted_under, tally_inserted}
+use Rattle.sources.specs.Holder.{AskedNothing}
+use Rattle.sources.specs.Source.{SourceView}
+use Rattle.debug_guard.specs.Guard.{Guard, guard_extent}
+use Rattle.raw_domains.specs.Domains.{DomainsView}
+use Rattle.machine_core.specs.Slots.{IsStored, extents_of}
+
+abbrev Slot : Type 0
+Slot = Option Guard
+
+abbrev at : List Slot → ℕ → Slot
+at slots i = get_or slots i None
+
+-- a block comes into a free slot
+more_extents : (slots : List Slot) (i : ℕ) (g : Guard) → i < length slots → at slots i ≡ None → Inserted (guard_extent g) (extents_of slots) (extents_of (set slots i (Some g)))
+more_extents [] i g lt free = absurd (omega arith)
+more_extents (None ∷ ss) zero g lt free = inserted_first (guard_extent g) (extents_of ss)
+more_extents (Some x ∷ ss) zero g lt free = absurd cc
+more_extents (None ∷ ss) (suc i) g lt free = more_extents ss i g (omega arith) free
+more_extents (Some x ∷ ss) (suc i) g lt free = inserted_under (guard_extent x) (guard_extent g) (extents_of ss) (extents_of (set ss i (Some g))) (more_extents ss i g (omega arith) free)
+
+-- a block goes
+fewer_extents : (slots : List Slot) (i : ℕ) (g : Guard) → at slots i ≡ Some g → Removed (guard_extent g) (extents_of slots) (extents_of (set slots i None))
+fewer_extents [] i g is = absurd cc
+fewer_extents (None ∷ ss) zero g is = absurd cc
+fewer_extents (Some x ∷ ss) zero g is =
+    let e : x ≡ g = cc in
+    subst (λ (y : Guard). Removed (guard_extent g) (guard_extent y ∷ extents_of ss) (extents_of ss)) (sym e) (inserted_first (guard_extent g) (extents_of ss))
+fewer_extents (None ∷ ss) (suc i) g is = fewer_extents ss i g is
+fewer_extents (Some x ∷ ss) (suc i) g is = inserted_under (guard_extent x) (guard_extent g) (extents_of (set ss i None)) (extents_of ss) (fewer_extents ss i g is)
+
+-- a block changes where it lies
+same_extents : (slots : List Slot) (i : ℕ) (g h : Guard) → at slots i ≡ Some g → guard_extent h ≡ guard_extent g → extents_of (set slots i (Some h)) ≡ extents_of slots
+same_extents [] i g h is same = refl
+same_extents (None ∷ ss) zero g h is same = absurd cc
+same_extents (Some x ∷ ss) zero g h is same =
+    let e : x ≡ g = cc in
+    ap (λ (d : Extent). d ∷ extents_of ss) (same ∙ ap guard_extent (sym e))
+same_extents (None ∷ ss) (suc i) g h is same = same_extents ss i g h is same
+same_extents (Some x ∷ ss) (suc i) g h is same = ap (λ (l : List Extent). guard_extent x ∷ l) (same_extents ss i g h is same)
+
+has_extent : (slots : List Slot) (i : ℕ) (g : Guard) → at slots i ≡ Some g → Has (guard_extent g) (extents_of slots)
+has_extent [] i g is = absurd cc
+has_extent (None ∷ ss) zero g is = absurd cc
+has_extent (Some x ∷ ss) zero g is =
+    let e : x ≡ g = cc in
+    inl (ap guard_extent e)
+has_extent (None ∷ ss) (suc i) g is = has_extent ss i g is
+has_extent (Some x ∷ ss) (suc i) g is = inr (has_extent ss i g is)
+
+-- an image is its size word and the body
+pub length-image_of : (body : List ℕ) → length (image_of body) ≡ length body + 8
+length-image_of body =
+    let eight : length (to_be_bytes w64 (size_of body)) ≡ 8 = refl in
+    omega (arith, length-append (to_be_bytes w64 (size_of body)) body, eight)
+
+some_bytes : (g : Guard) → 1 ≤ (guard_extent g).len
+some_bytes g = omega (arith, length-append (image_of g.body) g.rest, length-image_of g.body)
+
+-- ---- blocks in just these regions
+
+-- the block of a slot lies in one of the regions
+pub stored_has : (slots : List Slot) (raws : List Extent) (i : ℕ) (g : Guard) → IsStored slots raws → at slots i ≡ Some g → Has (guard_extent g) raws
+stored_has slots raws i g stored is = stored.lent (guard_extent g) (has_extent slots i g is)
+
+pub stored_more : (slots : List Slot) (raws more : List Extent) (i : ℕ) (g : Guard) → IsStored slots raws → i < length slots → at slots i ≡ None
+    → Inserted (guard_extent g) raws more → AreApart more → g.place % 16 ≡ 0 → IsStored (set slots i (Some g)) more
+stored_more slots raws more i g stored lt free added apart aligned =
+    let e = guard_extent g in
+    let mine = more_extents slots i g lt free in
+    record {
+      lent = all_in_more e (extents_of slots) (extents_of (set slots i (Some g))) raws more mine added stored.lent;
+      all = λ f. omega (arith, tally_inserted f e (extents_of slots) (extents_of (set slots i (Some g))) mine, tally_inserted f e raws more added, stored.all f);
+      apart = apart;
+      aligned = λ j h is. elim (eqb_tells j i) [
+        | inl here ↦
+            let same : Some g ≡ Some h = sym (get_or-set_same slots i (Some g) None lt) ∙ ap (at (set slots i (Some g))) (sym here.1) ∙ is in
+            let e : g ≡ h = cc in
+            subst (λ (x : Guard). x.place % 16 ≡ 0) e aligned
+        | inr away ↦ stored.aligned j h (sym (get_or-set_other slots i j (Some g) None away.1) ∙ is)
+      ];
+    }
+
+pub stored_fewer : (slots : List Slot) (raws fewer : List Extent) (i : ℕ) (g : Guard) → IsStored slots raws → i < length slots → at slots i ≡ Some g
+    → Removed (guard_extent g) raws fewer → AreApart fewer → IsStored (set slots i None) fewer
+stored_fewer slots raws fewer i g stored lt is gone apart =
+    let e = guard_extent g in
+    let mine = fewer_extents slots i g is in
+    let own : AreApart (extents_of slots) = λ x. omega (arith, stored.all (covers x), stored.apart x) in
+    record {
+      lent = all_in_fewer e (extents_of slots) (extents_of (set slots i None)) raws fewer (some_bytes g) own mine gone stored.lent;
+      all = λ f. omega (arith, tally_inserted f e (extents_of (set slots i None)) (extents_of slots) mine, tally_inserted f e fewer raws gone, stored.all f);
+      apart = apart;
+      aligned = λ j h there. elim (eqb_tells j i) [
+        | inl here ↦
+            let none : None ≡ Some h = sym (get_or-set_same slots i None None lt) ∙ ap (at (set slots i None)) (sym here.1) ∙ there in
+            absurd cc
+        | inr away ↦ stored.aligned j h (sym (get_or-set_other slots i j None None away.1) ∙ there)
+      ];
+    }
+
+pub stored_same : (slots : List Slot) (raws : List Extent) (i : ℕ) (g h : Guard) → IsStored slots raws → i < length slots → at slots i ≡ Some g → guard_extent h ≡ guard_extent g → IsStored (set slots i (Some h)) raws
+stored_same slots raws i g h stored lt is same =
+    let kept : extents_of (set slots i (Some h)) ≡ extents_of slots = same_extents slots i g h is same in
+    record {
+      lent = subst (λ (l : List Extent). AllIn l raws) (sym kept) stored.lent;
+      all = λ f. ap (tally f) kept ∙ stored.all f;
+      apart = stored.apart;
+      aligned = λ j k there. elim (eqb_tells j i) [
+        | inl here ↦
+            let now : Some h ≡ Some k = sym (get_or-set_same slots i (Some h) None lt) ∙ ap (at (set slots i (Some h))) (sym here.1) ∙ there in
+            let e : h ≡ k = cc in
+            ap (λ (x : Guard). x.place % 16) (sym e) ∙ ap (λ (d : Extent). d.place % 16) same ∙ stored.aligned i g is
+        | inr away ↦ stored.aligned j k (sym (get_or-set_other slots i j (Some h) None away.1) ∙ there)
+      ];
+    }
+
+-- a slot keeps where its block lies, whether it has one or not
+pub stored_kept : (slots : List Slot) (raws : List Extent) (i : ℕ) (o : Slot) → IsStored slots raws → i < length slots → option_map guard_extent o ≡ option_map guard_extent (at slots i) → IsStored (set slots i o) raws
+stored_kept slots raws i o stored lt same = by o (at slots i) refl same
+  where
+    by : (o p : Slot) → at slots i ≡ p → option_map guard_extent o ≡ option_map guard_extent p → IsStored (set slots i o) raws
+    by None None is same = subst (λ (l : List Slot). IsStored l raws) (sym (ap (set slots i) (sym is) ∙ set-get_or slots i None)) stored
+    by None (Some g) is same = absurd cc
+    by (Some h) None is same = absurd cc
+    by (Some h) (Some g) is same =
+        let e : guard_extent h ≡ guard_extent g = cc in
+        stored_same slots raws i g h stored lt is e
+
+-- no block at any number
+pub stored_none : (slots : List Slot) → ((i : ℕ) → at slots i ≡ None) → IsStored slots []
+stored_none slots none =
+    let empty : extents_of slots ≡ [] = no_extents slots none in
+    record {
+      lent = λ x has. subst (Has x) empty has;
+      all = λ f. ap (tally f) empty;
+      apart = λ x. omega arith;
+      aligned = λ i g is. absurd (differ g (sym (none i) ∙ is));
+    }
+  where
+    differ : (g : Guard) → None ≡ Some g → ⊥
+    differ g h = absurd cc
+
+    no_extents : (slots : List Slot) → ((i : ℕ) → at slots i ≡ None) → extents_of slots ≡ []
+    no_extents [] none = refl
+    no_extents (None ∷ ss) none = no_extents ss (λ i. none (suc i))
+    no_extents (Some g ∷ ss) none = absurd (differ g (sym (none 0)))
+
+-- no slot, no region
+pub stored_end : (raws : List Extent) → IsStored [] raws → raws ≡ []
+stored_end [] stored = refl
+stored_end (e ∷ es) stored = absurd (omega (arith, stored.all (λ _. 1)))
+
+-- ---- the last slot goes
+
+last_extents : (slots : List Slot) (g : Guard) → Removed (guard_extent g) (extents_of (slots ++ Some g ∷ [])) (extents_of slots)
+last_extents [] g = inserted_first (guard_extent g) []
+last_extents (None ∷ ss) g = last_extents ss g
+last_extents (Some x ∷ ss) g = inserted_under (guard_extent x) (guard_extent g) (extents_of ss) (extents_of (ss ++ Some g ∷ [])) (last_extents ss g)
+
+last_none : (slots : List Slot) → extents_of (slots ++ None ∷ []) ≡ extents_of slots
+last_none [] = refl
+last_none (None ∷ ss) = last_none ss
+last_none (Some x ∷ ss) = ap (λ (l : List Extent). guard_extent x ∷ l) (last_none ss)
+
+at_front : (slots : List Slot) (last : Slot) (i : ℕ) (g : Guard) → at slots i ≡ Some g → at (slots ++ last ∷ []) i ≡ Some g
+at_front [] last i g is = absurd cc
+at_front (s ∷ ss) last zero g is = is
+at_front (s ∷ ss) last (suc i) g is = at_front ss last i g is
+
+at_last : (slots : List Slot) (last : Slot) → at (slots ++ last ∷ []) (length slots) ≡ last
+at_last [] last = refl
+at_last (s ∷ ss) last = at_last ss last
+
+pub last_has : (slots : List Slot) (g : Guard) (raws : List Extent) → IsStored (slots ++ Some g ∷ []) raws → Has (guard_extent g) raws
+last_has slots g raws stored = stored_has (slots ++ Some g ∷ []) raws (length slots) g stored (at_last slots (Some g))
+
+pub stored_pop_some : (slots : List Slot) (g : Guard) (raws fewer : List Extent) → IsStored (slots ++ Some g ∷ []) raws → Removed (guard_extent g) raws fewer → AreApart fewer → IsStored slots fewer
+stored_pop_some slots g raws fewer stored gone apart =
+    let e = guard_extent g in
+    let all = extents_of (slots ++ Some g ∷ []) in
+    let mine = last_extents slots g in
+    let own : AreApart all = λ x. omega (arith, stored.all (covers x), stored.apart x) in
+    record {
+      lent = all_in_fewer e all (extents_of slots) raws fewer (some_bytes g) own mine gone stored.lent;
+      all = λ f. omega (arith, tally_inserted f e (extents_of slots) all mine, tally_inserted f e fewer raws gone, stored.all f);
+      apart = apart;
+      aligned = λ i h is. stored.aligned i h (at_front slots (Some g) i h is);
+    }
+
+pub stored_pop_none : (slots : List Slot) (raws : List Extent) → IsStored (slots ++ None ∷ []) raws → IsStored slots raws
+stored_pop_none slots raws stored =
+    let same : extents_of (slots ++ None ∷ []) ≡ extents_of slots = last_none slots in
+    record {
+      lent = subst (λ (l : List Extent). AllIn l raws) same stored.lent;
+      all = λ f. sym (ap (tally f) same) ∙ stored.all f;
+      apart = stored.apart;
+      aligned = λ i h is. stored.aligned i h (at_front slots None i h is);
+    }
+
+-- the memory of the last slot's block is one of the regions
+pub drop_loan : (slots : List Slot) (last : Slot) (raws : List Extent) → IsStored (slots ++ last ∷ []) raws → IfSome last (λ g. Has (guard_extent g) raws)
+drop_loan slots None raws stored = tt
+drop_loan slots (Some g) raws stored = last_has slots g raws stored
+
+-- the last slot goes, and the memory of its block
+pub drop_stored : (slots : List Slot) (last : Slot) (raws fewer : List Extent) → IsStored (slots ++ last ∷ []) raws
+    → IfSome last (λ g. Removed (guard_extent g) raws fewer) → IfNone last (fewer ≡ raws) → AreApart fewer → IsStored slots fewer
+drop_stored slots None raws fewer stored gone same apart = subst (IsStored slots) (sym same) (stored_pop_none slots raws stored)
+drop_stored slots (Some g) raws fewer stored gone same apart = stored_pop_some slots g raws fewer stored gone apart
+
+-- a store at the start
+pub stored_opening : (count : ℕ) (slots : List Slot) (domains : DomainsView) → slots ≡ replicate count None → domains ≡ record { raws = [] } → IsStored slots domains.raws
+stored_opening count slots domains empty none =
+    subst (λ (d : DomainsView). IsStored slots d.raws) (sym none)
+    (subst (λ (l : List Slot). IsStored l []) (sym empty) (stored_none (replicate count None) (none_in count)))
+  where
+    none_in : (n i : ℕ) → at (replicate n None) i ≡ None
+    none_in zero i = refl
+    none_in (suc n) zero = refl
+    none_in (suc n) (suc i) = none_in n i
+
+-- no request, and again none
+pub asked_nothing_then : {S : Type 0} (a b c : SourceView S) → AskedNothing a b → AskedNothing b c → AskedNothing a c
+asked_nothing_then a b c first second = record {
+  asked = second.asked ∙ first.asked;
+  refused = second.refused ∙ first.refused;
+  plan = second.plan ∙ first.plan;
+}
+
+-- once no slot is left, no region is
+pub last_left : (slots : List Slot) (o : Option Slot) (raws : List Extent) → (0 < length slots → IsSome o) → o ≡ None → IsStored slots raws → raws ≡ []
+last_left [] o raws some none stored = stored_end raws stored
+last_left (s ∷ ss) o raws some none stored =
+    let is : IsSome {T = Slot} None = subst IsSome none (some (omega arith)) in
+    absurd (true≢false (sym is))

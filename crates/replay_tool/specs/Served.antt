@@ -1,0 +1,35 @@
+-- What the sources did in a run.
+use Rattle.std.specs.Prelude.{◌≡◌, ℕ, ◌+◌, ◌≤◌, List}
+use Rattle.mem_base.specs.declared.history.Entry.{Entry}
+use Rattle.mem_base.specs.declared.trace.Side.TheVariants as sides
+use Rattle.trace_model.specs.Plain.{PlainTrack}
+use Rattle.event_model.specs.Plans.{GrowsBy, Heeds, is_planned}
+use Rattle.event_model.specs.Requests.{asked_in, refused_in}
+use Rattle.sources.specs.Source.{ArenaShape, SourceView, shape_after}
+
+-- a run asks for room for 256 arenas, without skew
+abbrev pub arenas_shaped : SourceView ArenaShape → SourceView ArenaShape
+arenas_shaped seen = record seen { shape = shape_after seen.out (record { max = 256; skew = 0 }) seen.shape }
+
+-- and for room for 268,435,456 raw bytes
+abbrev pub raw_shaped : SourceView ℕ → SourceView ℕ
+raw_shaped seen = record seen { shape = shape_after seen.out 268435456 seen.shape }
+
+-- the raw source answered just the requests of a history: its counts rose by theirs, its plan grew by what the operations list,
+-- and each request that the plan has was refused
+pub record Served (tracks : List PlainTrack) (es : List Entry) (before now : SourceView ℕ) : Type 0 where
+  pub asked : now.asked ≡ before.asked + asked_in sides.Raw es
+  pub refused : now.refused ≡ before.refused + refused_in sides.Raw es
+  pub plan : GrowsBy (is_planned tracks sides.Raw before.asked es) before.plan now.plan
+  pub heeds : Heeds sides.Raw now.plan before.asked es
+  pub window : now.window ≡ before.window
+  pub shape : now.shape ≡ before.shape
+
+-- the same, but that each count may have risen by one request more, for an event that found no memory
+pub record ServedNearly (tracks : List PlainTrack) (es : List Entry) (before now : SourceView ℕ) : Type 0 where
+  pub asked : (before.asked + asked_in sides.Raw es ≤ now.asked) × (now.asked ≤ before.asked + asked_in sides.Raw es + 1)
+  pub refused : (before.refused + refused_in sides.Raw es ≤ now.refused) × (now.refused ≤ before.refused + refused_in sides.Raw es + 1)
+  pub plan : GrowsBy (is_planned tracks sides.Raw before.asked es) before.plan now.plan
+  pub heeds : Heeds sides.Raw now.plan before.asked es
+  pub window : now.window ≡ before.window
+  pub shape : now.shape ≡ before.shape
