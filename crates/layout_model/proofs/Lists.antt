@@ -1,9 +1,9 @@
 -- The lists of pools and arenas after an edit.
-use Rattle.std.proofs.Common.{◌≡◌, ℕ, ◌+◌, ◌-◌, ◌≤◌, ◌≢◌, inl, inr, cond, eqb, List, [], ◌∷◌, length, Some, None, refl, arith}
+use Rattle.std.proofs.Common.{◌≡◌, ℕ, ◌+◌, ◌-◌, ◌≤◌, ◌≢◌, inl, inr, cond, eqb, List, [], ◌∷◌, Some, None, refl, arith}
 use Rattle.std.proofs.lemmas.Bool.Decides.{eqb_tells, leb_tells}
+use Rattle.extents.specs.Sums.{tally}
 use Rattle.layout_model.specs.Layout.{Usable, Used}
 use Rattle.layout_model.specs.Unplace.{lowered, without_pool, find_pool, find_arena, without_arena, put_arena}
-use Rattle.layout_model.specs.Tally.{tally}
 use Rattle.layout_model.specs.Sound.{StartsAt, AreUsable, Lives}
 use Rattle.layout_model.proofs.Tallies.{starts_less}
 
@@ -100,11 +100,6 @@ usable_put v (u ∷ us) a b c d r = elim (leb_tells v.free u.free) [
   | inl w ↦ rw w.0 (a, b, c, d, w.1, r)
   | inr w ↦ rw w.0 (r.0, r.1, r.2, r.3, starts_put u.free v us (omega arith) r.4, usable_put v us a b c d r.5)
 ]
-
--- a length is a tally
-pub counted : {X : Type 0} (xs : List X) → tally (λ _. 1) xs ≡ length xs
-counted [] = refl
-counted (x ∷ xs) = let i = counted xs in omega arith
 
 -- what is found, as a fact about the whole list
 pub usable_found : (a : ℕ) (us : List Usable) (u : Usable) → find_arena a us ≡ Some u → AreUsable us → (63 ≤ u.total) × (u.total ≤ 64) × (1 ≤ u.free) × (u.free ≤ u.total)

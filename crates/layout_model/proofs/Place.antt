@@ -6,19 +6,20 @@ use Rattle.std.proofs.Math.Nat.{le-div_iff_mul-le}
 use Rattle.std.proofs.lemmas.List.{get_or_past}
 use Rattle.mem_base.specs.declared.history.Grant.{Grant}
 use Rattle.mem_base.specs.declared.history.Grant.TheVariants.{NotAsked, Refused, Granted}
+use Rattle.extents.specs.Sums.{tally}
+use Rattle.extents.proofs.Lists.{tally-set, tally-append}
 use Rattle.layout_model.specs.Layout.{Layout, Usable, Used, Full}
 use Rattle.layout_model.specs.Sizes.{capacity}
-use Rattle.layout_model.specs.Sound.{dry_times, is_pool, has_arena, full_arena, full_times, is_arena, free_in, total_in, total_or, pool_times, pools_of, AreUsable, Lives, HasClass, HasTotal, IsSound}
+use Rattle.layout_model.specs.Sound.{one_if, dry_times, is_pool, has_arena, full_arena, full_times, is_arena, free_in, total_in, total_or, pool_times, pools_of, AreUsable, Lives, HasClass, HasTotal, IsSound}
 use Rattle.layout_model.specs.Place.{place_used, place_new, new_arena, granted, place_by, place}
-use Rattle.layout_model.specs.Tally.{tally, one_if}
 use Rattle.layout_model.specs.Place.{pools_of_class}
 use Rattle.layout_model.specs.Asks.{is_empty, was_asked, HasPools, FitsClass}
-use Rattle.layout_model.proofs.Tallies.{tally_set, tally_append, tally_at, swapped, lives_set, get_or_more, only_none, only_none_total, one_if_same, held_set, held_more, starts_less}
+use Rattle.layout_model.proofs.Tallies.{tally_or, swapped, lives_set, get_or_more, only_none, only_none_total, one_if_same, held_set, held_more, starts_less}
 
 -- a pool of used is known, and is not full
 pub pool_in : (l : Layout) (c : ℕ) (p : Used) (ps : List Used) → IsSound l → get_or l.used c [] ≡ p ∷ ps → (p.pool < length l.full) × (get_or l.full p.pool None ≡ None)
 pool_in l c p ps s e =
-    let here : tally (is_pool p.pool) (get_or l.used c []) ≤ pool_times p.pool l.used = tally_at (tally (is_pool p.pool)) l.used c [] refl in
+    let here : tally (is_pool p.pool) (get_or l.used c []) ≤ pool_times p.pool l.used = tally_or (tally (is_pool p.pool)) l.used c [] refl in
     let here2 : tally (is_pool p.pool) (p ∷ ps) ≤ pool_times p.pool l.used = subst (λ w. tally (is_pool p.pool) w ≤ pool_times p.pool l.used) e here in
     let one : one_if (eqb p.pool p.pool) ≡ 1 = one_if_same p.pool in
     let once = s.pools_once p.pool in
@@ -57,7 +58,7 @@ last_one l c p ps small s e =
     let times : (k : ℕ) → pool_times k (set l.used c ps) + is_pool k p ≡ pool_times k l.used = λ k. let w = swapped (is_pool k) l.used c _ ps inside e in omega arith in
     let arenas : (a : ℕ) → tally (tally (has_arena a)) (set l.used c ps) + has_arena a p ≡ tally (tally (has_arena a)) l.used = λ a. let w = swapped (has_arena a) l.used c _ ps inside e in omega arith in
     let fulls : (a : ℕ) → tally (full_arena a) (set l.full p.pool (Some f)) ≡ tally (full_arena a) l.full + one_if (eqb p.arena a) =
-    λ a. let w : tally (full_arena a) (set l.full p.pool (Some f)) + full_arena a None ≡ tally (full_arena a) l.full + one_if (eqb p.arena a) = rw known.1 at (tally_set (full_arena a) l.full p.pool (Some f) None known.0) in omega arith in
+    λ a. let w : tally (full_arena a) (set l.full p.pool (Some f)) + full_arena a None ≡ tally (full_arena a) l.full + one_if (eqb p.arena a) = rw known.1 at (tally-set (full_arena a) l.full p.pool (Some f) None known.0) in omega arith in
     record {
       classes = rw length-set s.classes;
       lives = lives_set l.used c ps inside s.lives live.2;
@@ -113,8 +114,8 @@ granted_keeps l t low high s none =
         | inl w ↦ rw w.0 (omega arith)
         | inr w ↦ rw w.0 (omega arith)
       ]);
-      out = let w = rw none at s.out in rw (tally_append dry_times l.dry (None ∷ [])) (omega arith);
-      most = let w = rw none at s.out in let v = rw none at s.most in rw (tally_append dry_times l.dry (None ∷ [])) (omega arith);
+      out = let w = rw none at s.out in rw (tally-append dry_times l.dry (None ∷ [])) (omega arith);
+      most = let w = rw none at s.out in let v = rw none at s.most in rw (tally-append dry_times l.dry (None ∷ [])) (omega arith);
     }
 
 -- what a new pool in the list of its class changes
@@ -142,7 +143,7 @@ opened l c n small s e =
         | inl w ↦ absurd (omega arith)
         | inr w ↦ rw w.0 (let v = s.pools_known k (omega arith) in omega arith)
       ]);
-      pools = λ a. let w = swapped (has_arena a) l.used c _ (q ∷ []) inside e in let v = tally_append (full_arena a) l.full (None ∷ []) in omega arith;
+      pools = λ a. let w = swapped (has_arena a) l.used c _ (q ∷ []) inside e in let v = tally-append (full_arena a) l.full (None ∷ []) in omega arith;
     }
 
 -- the last free pool of an arena is taken
@@ -163,7 +164,7 @@ place_dry l c u us small s e first one =
     let above : u.arena ≢ 0 = λ z. let w : is_arena u.arena u + tally (is_arena u.arena) us ≡ 0 = subst (λ x. is_arena x u + tally (is_arena x) us ≡ 0) (sym z) zeroth in absurd (omega arith) in
     let times : (a : ℕ) → dry_times (get_or (set l.dry u.arena (Some u.total)) a None) ≡ dry_times (get_or l.dry a None) + one_if (eqb u.arena a) = held_more dry_times l.dry u.arena (Some u.total) within (rw wet refl) in
     let totals : (a : ℕ) → total_or (get_or (set l.dry u.arena (Some u.total)) a None) ≡ total_or (get_or l.dry a None) + cond (eqb u.arena a) u.total 0 = held_more total_or l.dry u.arena (Some u.total) within (rw wet refl) in
-    let dries : tally dry_times (set l.dry u.arena (Some u.total)) ≡ tally dry_times l.dry + 1 = let w = rw wet at (tally_set dry_times l.dry u.arena (Some u.total) None within) in omega arith in
+    let dries : tally dry_times (set l.dry u.arena (Some u.total)) ≡ tally dry_times l.dry + 1 = let w = rw wet at (tally-set dry_times l.dry u.arena (Some u.total) None within) in omega arith in
     record {
       classes = rw length-set s.classes;
       lives = o.lives;

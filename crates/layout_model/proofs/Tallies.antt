@@ -2,28 +2,21 @@
 use Rattle.std.proofs.Common.{◌≡◌, ℕ, zero, suc, ◌+◌, ◌<◌, ◌≤◌, inl, inr, cond, eqb, List, [], ◌∷◌, ◌++◌, length, get_or, set, Option, Some, None, refl, sym, subst, arith}
 use Rattle.std.proofs.lemmas.List.{get_or-set_same, get_or-set_other}
 use Rattle.std.proofs.lemmas.Bool.Decides.{eqb_tells}
+use Rattle.extents.specs.Sums.{tally}
+use Rattle.extents.proofs.Lists.{tally-set}
 use Rattle.layout_model.specs.Layout.{Usable, Used, Full}
 use Rattle.layout_model.specs.Sizes.{capacity}
-use Rattle.layout_model.specs.Sound.{dry_times, full_times, StartsAt, Lives}
-use Rattle.layout_model.specs.Tally.{tally, one_if}
+use Rattle.layout_model.specs.Sound.{dry_times, full_times, one_if, StartsAt, Lives}
 
-pub tally_set : {X : Type 0} (f : X → ℕ) (xs : List X) (i : ℕ) (y d : X) → i < length xs → tally f (set xs i y) + f (get_or xs i d) ≡ tally f xs + f y
-tally_set f [] i y d h = absurd (omega arith)
-tally_set f (x ∷ xs) zero y d h = omega arith
-tally_set f (x ∷ xs) (suc n) y d h = let e = tally_set f xs n y d (omega arith) in omega arith
-
-pub tally_append : {X : Type 0} (f : X → ℕ) (xs ys : List X) → tally f (xs ++ ys) ≡ tally f xs + tally f ys
-tally_append f [] ys = omega arith
-tally_append f (x ∷ xs) ys = let e = tally_append f xs ys in omega arith
-
-pub tally_at : {X : Type 0} (f : X → ℕ) (xs : List X) (i : ℕ) (d : X) → f d ≡ 0 → f (get_or xs i d) ≤ tally f xs
-tally_at f [] i d z = omega arith
-tally_at f (x ∷ xs) zero d z = omega arith
-tally_at f (x ∷ xs) (suc n) d z = let e = tally_at f xs n d z in omega arith
+-- what is found at an index adds no more than the sum, also past the end
+pub tally_or : {X : Type 0} (f : X → ℕ) (xs : List X) (i : ℕ) (d : X) → f d ≡ 0 → f (get_or xs i d) ≤ tally f xs
+tally_or f [] i d z = omega arith
+tally_or f (x ∷ xs) zero d z = omega arith
+tally_or f (x ∷ xs) (suc n) d z = let e = tally_or f xs n d z in omega arith
 
 -- one class's list is replaced
 pub swapped : (f : Used → ℕ) (pss : List (List Used)) (c : ℕ) (ps qs : List Used) → c < length pss → get_or pss c [] ≡ ps → tally (tally f) (set pss c qs) + tally f ps ≡ tally (tally f) pss + tally f qs
-swapped f pss c ps qs h e = subst (λ w. tally (tally f) (set pss c qs) + tally f w ≡ tally (tally f) pss + tally f qs) e (tally_set (tally f) pss c qs [] h)
+swapped f pss c ps qs h e = subst (λ w. tally (tally f) (set pss c qs) + tally f w ≡ tally (tally f) pss + tally f qs) e (tally-set (tally f) pss c qs [] h)
 
 pub lives_set : (pss : List (List Used)) (c : ℕ) (qs : List Used) → c < length pss → ((d : ℕ) → d < 32 → Lives (capacity d) (get_or pss d [])) → Lives (capacity c) qs → (d : ℕ) → d < 32 → Lives (capacity d) (get_or (set pss c qs) d [])
 lives_set pss c qs h all here d small =

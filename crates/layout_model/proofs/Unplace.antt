@@ -2,14 +2,15 @@
 use Rattle.std.proofs.Common.{◌≡◌, ℕ, zero, suc, ◌+◌, ◌-◌, ◌<◌, ◌≤◌, ◌≢◌, not, inl, inr, Bool, true, false, cond, eqb, List, [], ◌∷◌, length, get_or, set, Option, Some, None, refl, sym, subst, arith}
 use Rattle.std.proofs.lemmas.List.{get_or-set_other, length-set}
 use Rattle.std.proofs.lemmas.Bool.Decides.{eqb_tells}
+use Rattle.extents.specs.Sums.{tally}
+use Rattle.extents.proofs.Lists.{tally-set, tally_length}
 use Rattle.layout_model.specs.Layout.{Layout, Usable, Used, Full}
 use Rattle.layout_model.specs.Sizes.{capacity}
-use Rattle.layout_model.specs.Sound.{dry_times, is_pool, has_arena, full_arena, full_times, is_arena, free_in, total_in, total_or, pool_times, pools_of, StartsAt, AreUsable, Lives, HasClass, HasTotal, IsSound}
+use Rattle.layout_model.specs.Sound.{one_if, dry_times, is_pool, has_arena, full_arena, full_times, is_arena, free_in, total_in, total_or, pool_times, pools_of, StartsAt, AreUsable, Lives, HasClass, HasTotal, IsSound}
 use Rattle.layout_model.specs.Unplace.{find_pool, find_arena, find_class, lowered, without_pool, without_arena, put_arena, is_last, pool_back, arena_back_by, unplace_full, unplace_used, unplace_by, unplace}
-use Rattle.layout_model.specs.Tally.{tally, one_if}
-use Rattle.layout_model.proofs.Tallies.{tally_set, swapped, lives_set, one_if_same, held_set, held_less}
+use Rattle.layout_model.proofs.Tallies.{swapped, lives_set, one_if_same, held_set, held_less}
 use Rattle.layout_model.proofs.Place.{many}
-use Rattle.layout_model.proofs.Lists.{tally_without, tally_lowered, lives_without, lives_lowered, found_arena, tally_apart, none_there, usable_without, tally_put, usable_put, counted, usable_found}
+use Rattle.layout_model.proofs.Lists.{tally_without, tally_lowered, lives_without, lives_lowered, found_arena, tally_apart, none_there, usable_without, tally_put, usable_put, usable_found}
 
 full_inside : (xs : List (Option Full)) (k : ℕ) (f : Full) → get_or xs k None ≡ Some f → k < length xs
 full_inside [] k f e = cc
@@ -32,7 +33,7 @@ unplace_full_keeps l k f s e =
     let room = many f.class small in
     let times : (j : ℕ) → pool_times j (set l.used f.class (q ∷ ps)) ≡ pool_times j l.used + one_if (eqb k j) = λ j. let w = swapped (is_pool j) l.used f.class ps (q ∷ ps) inside refl in omega arith in
     let arenas : (a : ℕ) → tally (tally (has_arena a)) (set l.used f.class (q ∷ ps)) ≡ tally (tally (has_arena a)) l.used + one_if (eqb f.arena a) = λ a. let w = swapped (has_arena a) l.used f.class ps (q ∷ ps) inside refl in omega arith in
-    let fulls : (a : ℕ) → tally (full_arena a) (set l.full k None) + one_if (eqb f.arena a) ≡ tally (full_arena a) l.full = λ a. let w = rw e at (tally_set (full_arena a) l.full k None None within) in omega arith in
+    let fulls : (a : ℕ) → tally (full_arena a) (set l.full k None) + one_if (eqb f.arena a) ≡ tally (full_arena a) l.full = λ a. let w = rw e at (tally-set (full_arena a) l.full k None None within) in omega arith in
     let held : (j : ℕ) → full_times (get_or (set l.full k None) j None) + cond (eqb k j) 1 0 ≡ full_times (get_or l.full j None) = held_less full_times l.full k None (Some f) within e refl in
     record {
       classes = rw length-set s.classes;
@@ -123,7 +124,7 @@ back_dry l a t s e =
     let total : (63 ≤ t) × (t ≤ 64) = subst HasTotal e (s.dry a) in
     let times : (b : ℕ) → dry_times (get_or (set l.dry a None) b None) + cond (eqb a b) 1 0 ≡ dry_times (get_or l.dry b None) = held_less dry_times l.dry a None (Some t) within e refl in
     let totals : (b : ℕ) → total_or (get_or (set l.dry a None) b None) + cond (eqb a b) t 0 ≡ total_or (get_or l.dry b None) = held_less total_or l.dry a None (Some t) within e refl in
-    let dries : tally dry_times (set l.dry a None) + 1 ≡ tally dry_times l.dry = let w = rw e at (tally_set dry_times l.dry a None None within) in omega arith in
+    let dries : tally dry_times (set l.dry a None) + 1 ≡ tally dry_times l.dry = let w = rw e at (tally-set dry_times l.dry a None None within) in omega arith in
     let above : a ≢ 0 = λ z. let w : get_or l.dry 0 None ≡ Some t = subst (λ x. get_or l.dry x None ≡ Some t) z e in let v = s.arenas_numbered.1 in absurd (cc) in
     record {
       classes = s.classes;
@@ -173,7 +174,7 @@ back_open l a u s dry e =
     let us : List Usable = without_arena u.arena l.usable in
     let fit = usable_found u.arena l.usable u e2 s.usable in
     let apart : (f : Usable → ℕ) → tally f us + f u ≡ tally f l.usable = λ f. tally_apart f u.arena l.usable u e2 in
-    let fewer : length us + 1 ≡ length l.usable = let w = apart (λ _. 1) in let x = counted us in let y = counted l.usable in omega arith in
+    let fewer : length us + 1 ≡ length l.usable = let w = apart (λ _. 1) in let x = tally_length us in let y = tally_length l.usable in omega arith in
     let adds : (b : ℕ) → tally (free_in b) us + free_in b u + pools_of b l + one_if (eqb u.arena b) ≡ tally (total_in b) us + total_in b u + total_or (get_or l.dry b None) =
     λ b. let w : tally (free_in b) l.usable + pools_of b l + one_if (eqb u.arena b) ≡ tally (total_in b) l.usable + total_or (get_or l.dry b None) = rw is (s.adds_up b) in let x = apart (free_in b) in let y = apart (total_in b) in omega arith in
     let same = one_if_same u.arena in
@@ -205,7 +206,7 @@ back_open l a u s dry e =
     } in
     let v : Usable = record u { free = u.free + 1 } in
     let put : (f : Usable → ℕ) → tally f (put_arena v us) ≡ f v + tally f us = λ f. tally_put f v us in
-    let long : length (put_arena v us) ≡ length us + 1 = let w = put (λ _. 1) in let x = counted us in let y = counted (put_arena v us) in omega arith in
+    let long : length (put_arena v us) ≡ length us + 1 = let w = put (λ _. 1) in let x = tally_length us in let y = tally_length (put_arena v us) in omega arith in
     let kept : IsSound (record l { usable = put_arena v us }) = record {
       classes = s.classes;
       lives = s.lives;

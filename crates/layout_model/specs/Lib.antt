@@ -3,7 +3,6 @@ pub mod Layout
 pub mod Place
 pub mod Unplace
 pub mod Asks
-pub mod Tally
 pub mod Sound
 pub mod Laws
 pub mod Examples

@@ -1,9 +1,13 @@
 -- What is true of every layout that a heap can have.
-use Rattle.std.specs.Prelude.{◌≡◌, ℕ, ◌+◌, ◌<◌, ◌≤◌, ◌==◌, if◌then◌else◌, List, [], ◌∷◌, length, get_or, Option, Some, None}
+use Rattle.std.specs.Prelude.{◌≡◌, ℕ, ◌+◌, ◌<◌, ◌≤◌, ◌==◌, Bool, if◌then◌else◌, List, [], ◌∷◌, length, get_or, Option, Some, None}
+use Rattle.extents.specs.Sums.{tally}
 use Rattle.layout_model.specs.Sizes.{capacity}
 use Rattle.layout_model.specs.Layout.{Layout, Usable, Used, Full}
 use Rattle.layout_model.specs.Place.{pools_of_class}
-use Rattle.layout_model.specs.Tally.{tally, one_if}
+
+-- 1 where the test holds
+abbrev pub one_if : Bool → ℕ
+one_if b = if b then 1 else 0
 
 -- 1 for pool k
 abbrev pub is_pool : ℕ → Used → ℕ

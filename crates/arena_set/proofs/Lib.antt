@@ -1,0 +1,14 @@
+pub mod Flats
+pub mod Rows
+pub mod Geometry
+pub mod Accounts
+pub mod Lending
+pub mod Pools
+pub mod Places
+pub mod Sets
+pub mod Changes
+pub mod Lines
+pub mod Takes
+pub mod Gives
+pub mod Ends
+pub mod Idle

@@ -1,0 +1,162 @@
+-- Pools of an arena that are taken, started, and come back.
+use Rattle.std.proofs.Common.{◌≡◌, ℕ, zero, suc, ◌+◌, ◌-◌, ◌%◌, ◌<◌, ◌≤◌, ◌≢◌, inl, inr, List, [], ◌∷◌, ◌++◌, map, length, get_or, set, take, reverse, replicate, Option, Some, None, refl, sym, ap, subst, ◌∙◌, arith, length-set}
+use Rattle.std.proofs.lemmas.List.{get_or-set_same, get_or-set_other, length-replicate, reverse-append, take-replicate}
+use Rattle.std.proofs.lemmas.Bool.Decides.{eqb_tells}
+use Rattle.std.specs.Option.{ForSome}
+use Rattle.raw_region.specs.declared.maker.Maker.{Maker}
+use Rattle.raw_region.specs.Cells.{AllHome}
+use Rattle.raw_region.specs.Region.{RegionView}
+use Rattle.links.specs.Nodes.{times}
+use Rattle.links.proofs.NodeLemmas.{times-here}
+use Rattle.pool_core.specs.Pool.{blocks_of, IsEmpty}
+use Rattle.arena_set.specs.declared.started.Started.{Started}
+use Rattle.arena_set.specs.Flat.{part, flat}
+use Rattle.arena_set.specs.Arena.{ArenaView, total_at, numbers_from, new_arena, pool_loans, arena_loans, started_times, after_give_pool, after_start, AccountsFor, IsSound, IsArena, IsArenaRegion}
+use Rattle.arena_set.proofs.Flats.{all_set, all_gap, all_none, part_same, flat_none, flat_empty}
+use Rattle.arena_set.proofs.Rows.{row_times, row_most, row_missing, row_all, times_from}
+use Rattle.arena_set.proofs.Accounts.{none_lent, all_counted}
+
+pub times_other : (j k : ℕ) (xs : List ℕ) → k ≢ j → times j (k ∷ xs) ≡ times j xs
+times_other j k xs n = elim (eqb_tells k j) [ inl w ↦ absurd (n w.1) | inr w ↦ rw w.0 (omega arith) ]
+
+-- ---- a free pool is taken
+
+pub took_pool : (a : ArenaView) (k : ℕ) (rest : List ℕ) → a.free ≡ k ∷ rest → IsArena a → IsArena (record { region = a.region; free = rest; pools = a.pools })
+took_pool a k rest e s = record {
+  region = s.region;
+  count = s.count;
+  free = λ j. let f = subst (λ xs. times j xs + started_times (get_or a.pools j None) ≤ 1) e (s.free j) in omega arith;
+  below = λ j h. s.below j (subst (λ xs. 1 ≤ times j xs) (sym e) (omega arith));
+  sound = s.sound;
+  accounts = s.accounts;
+}
+
+-- ---- a pool comes back, or is started
+
+-- how many pools are free beside one that is not
+pub free_left : (a : ArenaView) (k : ℕ) → IsArena a → k < length a.pools → times k a.free ≡ 0 → length a.free + 1 ≤ length a.pools
+free_left a k s lt out =
+    let all = row_times (length a.pools) a.free s.below in
+    let m = row_missing (length a.pools) (λ j. times j a.free) k (λ j. let f = s.free j in omega arith) lt out in omega arith
+
+pub most_pools : (base : ℕ) → total_at base ≤ 64
+most_pools base = elim (eqb_tells (base % 16384) 0) [ inl w ↦ rw w.0 (omega arith) | inr w ↦ rw w.0 (omega arith) ]
+
+no_blocks : (b : ℕ) (m : Maker) (k : ℕ) (s : Started) → IsEmpty s.pool → pool_loans b m k s ≡ []
+no_blocks b m k s none = empty_map _ (blocks_of s.pool) none where
+  empty_map : {X : Type 0} (g : ℕ → X) (os : List ℕ) → length os ≡ 0 → map g os ≡ []
+  empty_map g [] e = refl
+  empty_map g (o ∷ os) e = absurd (omega arith)
+
+no_part : (b : ℕ) (m : Maker) (k : ℕ) (o : Option Started) → ForSome o (λ s. IsEmpty s.pool) → part (pool_loans b m) k o ≡ []
+no_part b m k None none = refl
+no_part b m k (Some s) none = no_blocks b m k s (none s refl)
+
+module _ (a : ArenaView) (k : ℕ) (sound : IsArena a) (lt : k < length a.pools) (out : times k a.free ≡ 0) where
+  abbrev lent : List (Option Started) → List Rattle.extents.specs.Extent.Extent
+  lent ps = flat (pool_loans a.region.base a.region.maker) 0 ps
+
+  same_loans : (o : Option Started) → ForSome (get_or a.pools k None) (λ s. IsEmpty s.pool) → ForSome o (λ s. IsEmpty s.pool) → lent (set a.pools k o) ≡ lent a.pools
+  same_loans o was now =
+      part_same (pool_loans a.region.base a.region.maker) 0 k k a.pools (get_or a.pools k None) o (omega arith) lt refl (no_part a.region.base a.region.maker k o now ∙ sym (no_part a.region.base a.region.maker k (get_or a.pools k None) was))
+
+  pub gave_loans : ForSome (get_or a.pools k None) (λ s. IsEmpty s.pool) → arena_loans (after_give_pool a k) ≡ arena_loans a
+  gave_loans was = same_loans None was (λ s e. absurd (cc))
+
+  pub gave_pool : ForSome (get_or a.pools k None) (λ s. IsEmpty s.pool) → IsArena (after_give_pool a k)
+  gave_pool was = record {
+    region = sound.region;
+    count = length-set a.pools k None ∙ sound.count;
+    free = λ j. elim (eqb_tells k j) [
+      | inl w ↦ subst (λ i. times i (k ∷ a.free) + started_times (get_or (set a.pools k None) i None) ≤ 1) w.1 (let h = times-here k a.free in let g = ap started_times (get_or-set_same a.pools k None None lt) in omega arith)
+      | inr w ↦ let h = times_other j k a.free w.1 in let g = ap started_times (get_or-set_other a.pools k j None None (λ e. w.1 (sym e))) in let f = sound.free j in omega arith
+    ];
+    below = λ j h. subst (λ n. j < n) (sym (length-set a.pools k None)) (elim (eqb_tells k j) [
+      | inl w ↦ subst (λ i. i < length a.pools) w.1 lt
+      | inr w ↦ sound.below j (let t = times_other j k a.free w.1 in omega arith)
+    ]);
+    sound = all_gap IsSound a.pools k sound.sound;
+    accounts = subst (AccountsFor a.region) (sym (gave_loans was)) sound.accounts;
+  }
+
+  module _ (s : Started) (fresh : get_or a.pools k None ≡ None) (fine : IsSound s) (none : IsEmpty s.pool) where
+    pub started_loans : arena_loans (after_start a k s) ≡ arena_loans a
+    started_loans = same_loans (Some s) (λ t e. let w : Some t ≡ None = sym e ∙ fresh in absurd (cc)) (λ t e. let w : s ≡ t = cc in subst (λ (u : Started). IsEmpty u.pool) w none)
+
+    pub started_pool : IsArena (after_start a k s)
+    started_pool = record {
+      region = sound.region;
+      count = length-set a.pools k (Some s) ∙ sound.count;
+      free = λ j. elim (eqb_tells k j) [
+        | inl w ↦ subst (λ i. times i a.free + started_times (get_or (set a.pools k (Some s)) i None) ≤ 1) w.1 (let g = ap started_times (get_or-set_same a.pools k (Some s) None lt) in omega arith)
+        | inr w ↦ let g = ap started_times (get_or-set_other a.pools k j (Some s) None (λ e. w.1 (sym e))) in let f = sound.free j in omega arith
+      ];
+      below = λ j h. subst (λ n. j < n) (sym (length-set a.pools k (Some s))) (sound.below j h);
+      sound = all_set IsSound a.pools k s sound.sound fine;
+      accounts = subst (AccountsFor a.region) (sym started_loans) sound.accounts;
+    }
+
+-- ---- an arena of which all pools are free
+
+pub only_none : (o : Option Started) → started_times o ≡ 0 → o ≡ None
+only_none None e = refl
+only_none (Some s) e = absurd (omega arith)
+
+pub none_started : (a : ArenaView) → IsArena a → length a.free ≡ length a.pools → (j : ℕ) → j < length a.pools → get_or a.pools j None ≡ None
+none_started a s all j lt =
+    let sum = row_times (length a.pools) a.free s.below in
+    let one = row_all (length a.pools) (λ k. times k a.free) (λ k. let f = s.free k in omega arith) (omega arith) j lt in
+    let f = s.free j in only_none (get_or a.pools j None) (omega arith)
+
+-- so it has no part of anything that is made of its pools
+pub nothing_started : {Y : Type 0} (g : ℕ → Started → List Y) (a : ArenaView) → IsArena a → length a.free ≡ length a.pools → flat g 0 a.pools ≡ []
+nothing_started g a s all = flat_empty g 0 a.pools (λ j lt. rw (none_started a s all j lt) refl)
+
+pub all_free_home : (a : ArenaView) → IsArena a → length a.free ≡ length a.pools → AllHome a.region.cells
+all_free_home a s all = none_lent a.region (subst (AccountsFor a.region) (nothing_started (pool_loans a.region.base a.region.maker) a s all) s.accounts)
+
+-- no pool is started in a new one
+none_at : (n j : ℕ) → started_times (get_or (replicate n None) j None) ≡ 0
+none_at zero j = refl
+none_at (suc n) zero = refl
+none_at (suc n) (suc j) = none_at n j
+
+pub new_is_arena : (r : RegionView) → IsArenaRegion r → AllHome r.cells → IsArena (new_arena r)
+new_is_arena r s home =
+    let n : ℕ = total_at r.base in let none : Option Started = None in
+    record {
+      region = s;
+      count = length-replicate n none;
+      free = λ j. let t = times_from 0 n j in let z = none_at n j in let most = t.0 in omega arith;
+      below = λ j h. let t = times_from 0 n j in let b = t.1 h in let l = length-replicate n none in omega arith;
+      sound = all_none IsSound n;
+      accounts = subst (AccountsFor r) (sym (flat_none (pool_loans r.base r.maker) 0 n)) (all_counted r home);
+    }
+
+-- ---- the lists of a new arena
+
+-- one more pool in front of those that are listed
+pub listed_more : (items : List ℕ) (count done x : ℕ) → reverse items ≡ numbers_from (count - done) done → done < count → x ≡ count - 1 - done → reverse (items ++ x ∷ []) ≡ numbers_from (count - (done + 1)) (done + 1)
+listed_more items count done x e lt is =
+    let first : count - (done + 1) ≡ x = omega arith in let second : count - (done + 1) + 1 ≡ count - done = omega arith in let more : suc done ≡ done + 1 = omega arith in
+    reverse-append items (x ∷ []) ∙ ap (λ xs. x ∷ xs) e ∙ (λ i. sym first i ∷ numbers_from (sym second i) done) ∙ ap (λ k. numbers_from (count - (done + 1)) k) more
+
+pub none_listed : (count : ℕ) (items : List ℕ) → items ≡ [] → reverse items ≡ numbers_from (count - 0) 0
+none_listed count items e = ap reverse e
+
+pub all_listed : (count : ℕ) (xs : List ℕ) → xs ≡ numbers_from (count - count) count → xs ≡ numbers_from 0 count
+all_listed count xs e = let z : count - count ≡ 0 = omega arith in e ∙ ap (λ n. numbers_from n count) z
+
+pub cut_pools : (n : ℕ) (ps : List (Option Started)) → n ≤ 64 → ps ≡ replicate 64 None → take n ps ≡ replicate n None
+cut_pools n ps few e = let none : Option Started = None in ap (take n) e ∙ take-replicate n 64 none few
+
+pub new_arena_is : (r : RegionView) (n : ℕ) (free : List ℕ) (pools ps : List (Option Started)) → n ≡ total_at r.base → free ≡ numbers_from 0 n → pools ≡ take n ps → ps ≡ replicate 64 None → record { region = r; free = free; pools = pools } ≡ new_arena r
+new_arena_is r n free pools ps e f p all =
+    let most : n ≤ 64 = let m = most_pools r.base in omega arith in
+    let fs : free ≡ numbers_from 0 (total_at r.base) = f ∙ ap (numbers_from 0) e in
+    let pools_are : pools ≡ replicate (total_at r.base) None = p ∙ cut_pools n ps most all ∙ ap (λ k. replicate k None) e in
+    λ i. record { region = r; free = fs i; pools = pools_are i }
+
+-- no more pools are free than there are
+pub free_most : (a : ArenaView) → IsArena a → length a.free ≤ length a.pools
+free_most a s = let all = row_times (length a.pools) a.free s.below in let m = row_most (length a.pools) (λ j. times j a.free) (λ j. let f = s.free j in omega arith) in omega arith

@@ -1,0 +1,8 @@
+use Rattle.std.proofs.Common.{reverse}
+use Rattle.arena_set.proofs.arena.Arena.mend.Goals as goal
+
+pub invariant_of-self : goal.invariant_of-self
+invariant_of-self c = record { arena = (c.mend_block.ensures (reverse c.self.inside.free.items) c.self.invariant.arena).0; room = c.self.invariant.room }
+
+pub returns-clause-arena : goal.returns-clause-arena
+returns-clause-arena c = (c.mend_block.ensures (reverse c.self.inside.free.items) c.self.invariant.arena).0

@@ -1,0 +1,115 @@
+-- One arena: its pools, and what is lent of them.
+use Rattle.std.specs.Prelude.{◌≡◌, ℕ, zero, suc, ◌+◌, ◌-◌, ◌*◌, ◌%◌, ◌<◌, ◌≤◌, ◌==◌, if◌then◌else◌, List, [], ◌∷◌, length, map, get_or, set, replicate, Option, Some, None}
+use Rattle.raw_region.specs.declared.maker.Maker.{Maker}
+use Rattle.raw_region.specs.Region.{RegionView, PieceView}
+use Rattle.raw_region.specs.Cells.{away, with_run}
+use Rattle.extents.specs.Sums.{tally}
+use Rattle.extents.specs.Extent.{Extent, covers}
+use Rattle.pool_core.specs.Pool.{size_of, blocks_of, next_block, after_take, after_give, IsPool}
+use Rattle.links.specs.Nodes.{times}
+use Rattle.arena_set.specs.declared.started.Started.{Started}
+use Rattle.arena_set.specs.Flat.{AllSome, flat}
+
+-- an arena: its region, its free pools, the next one first, and each of its pools that was started
+pub record ArenaView : Type 0 where
+  pub region : RegionView
+  pub free : List ℕ
+  pub pools : List (Option Started)
+
+-- the offset of the first pool in a region with this base: pools begin at multiples of 16,384
+abbrev pub first_pool : ℕ → ℕ
+first_pool base = (16384 - base % 16384) % 16384
+
+-- how many pools a region with this base has
+abbrev pub total_at : ℕ → ℕ
+total_at base = if base % 16384 == 0 then 64 else 63
+
+-- the offset of pool k in a region with this base
+abbrev pub pool_offset : ℕ → ℕ → ℕ
+pool_offset base k = first_pool base + 16384 * k
+
+-- k numbers from n on, in order
+abbrev pub numbers_from : ℕ → ℕ → List ℕ
+numbers_from n zero = []
+numbers_from n (suc k) = n ∷ numbers_from (n + 1) k
+
+-- an arena of which no pool was taken
+abbrev pub new_arena : RegionView → ArenaView
+new_arena region = record { region = region; free = numbers_from 0 (total_at region.base); pools = replicate (total_at region.base) None }
+
+-- the block of s bytes at an offset of the pool that begins at an offset of the region
+abbrev pub block_extent : ℕ → Maker → ℕ → ℕ → ℕ → Extent
+block_extent base maker at s off = record { place = base + at + off; len = s; maker = maker }
+
+-- the blocks in use of pool k
+abbrev pub pool_loans : ℕ → Maker → ℕ → Started → List Extent
+pool_loans base maker k s = map (block_extent base maker (pool_offset base k) (size_of s.pool)) (blocks_of s.pool)
+
+-- the blocks in use of an arena
+abbrev pub arena_loans : ArenaView → List Extent
+arena_loans a = flat (pool_loans a.region.base a.region.maker) 0 a.pools
+
+-- 1 for a byte at home
+abbrev pub home : Option ℕ → ℕ
+home None = 0
+home (Some b) = 1
+
+-- each byte is at home or in just one of the extents
+abbrev pub AccountsFor : RegionView → List Extent → Type 0
+AccountsFor r es = (i : ℕ) → i < length r.cells → home (get_or r.cells i None) + tally (covers (r.base + i)) es ≡ 1
+
+-- 1 for a pool that was started
+abbrev pub started_times : Option Started → ℕ
+started_times None = 0
+started_times (Some s) = 1
+
+-- the pool of a started one is sound
+abbrev pub IsSound : Started → Type 0
+IsSound s = IsPool s.pool
+
+-- a region that can be an arena: a mebibyte at a page of 4,096 bytes that is not the first one
+pub record IsArenaRegion (r : RegionView) : Type 0 where
+  pub long : length r.cells ≡ 1048576
+  pub aligned : r.base % 4096 ≡ 0
+  pub somewhere : 1 ≤ r.base
+
+-- free pools are distinct and not started, and just the blocks in use are lent
+pub record IsArena (a : ArenaView) : Type 0 where
+  pub region : IsArenaRegion a.region
+  pub count : length a.pools ≡ total_at a.region.base
+  pub free : (k : ℕ) → times k a.free + started_times (get_or a.pools k None) ≤ 1
+  pub below : (k : ℕ) → 1 ≤ times k a.free → k < length a.pools
+  pub sound : AllSome IsSound a.pools
+  pub accounts : AccountsFor a.region (arena_loans a)
+
+-- ---- what calls do to one arena
+
+-- the arena after pool k came back
+abbrev pub after_give_pool : ArenaView → ℕ → ArenaView
+after_give_pool a k = record a { free = k ∷ a.free; pools = set a.pools k None }
+
+-- the arena after pool k was started
+abbrev pub after_start : ArenaView → ℕ → Started → ArenaView
+after_start a k s = record a { pools = set a.pools k (Some s) }
+
+-- where the block that pool k gives next stands in the region
+abbrev pub next_offset : ArenaView → ℕ → Started → ℕ
+next_offset a k s = pool_offset a.region.base k + next_block s.pool
+
+-- the arena after pool k lent that block
+abbrev pub after_lend : ArenaView → ℕ → Started → ArenaView
+after_lend a k s = record a {
+  region = record a.region { cells = away a.region.cells (next_offset a k s) (size_of s.pool) };
+  pools = set a.pools k (Some (record s { pool = after_take s.pool }));
+}
+
+-- where the piece stands in pool k
+abbrev pub piece_offset : ArenaView → ℕ → PieceView → ℕ
+piece_offset a k piece = piece.place - (a.region.base + pool_offset a.region.base k)
+
+-- the arena after a piece came home to pool k
+abbrev pub after_mend : ArenaView → ℕ → Started → PieceView → ArenaView
+after_mend a k s piece = record a {
+  region = record a.region { cells = with_run a.region.cells (piece.place - a.region.base) (length piece.bytes) (map Some piece.bytes) };
+  pools = set a.pools k (Some (record s { pool = after_give s.pool (piece_offset a k piece) }));
+}
