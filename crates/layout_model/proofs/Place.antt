@@ -90,7 +90,7 @@ place_used_keeps l c p ps small s e =
       | inr w ↦ rw w.0 (one_more l c p ps small s e w.1)
     ]
 
-granted_keeps : (l : Layout) (t : ℕ) → 63 ≤ t → t ≤ 64 → IsSound l → l.usable ≡ [] → IsSound (granted l t)
+pub granted_keeps : (l : Layout) (t : ℕ) → 63 ≤ t → t ≤ 64 → IsSound l → l.usable ≡ [] → IsSound (granted l t)
 granted_keeps l t low high s none =
     let numbered = s.arenas_numbered in
     let fresh : get_or l.dry (l.given + 1) None ≡ None = get_or_past l.dry (l.given + 1) None (omega arith) in

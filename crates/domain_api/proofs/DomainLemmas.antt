@@ -1,0 +1,192 @@
+-- Blocks of two heaps: which of them a block is of, and what stays of what is held.
+use Rattle.std.proofs.Common.{◌≡◌, ◌≢◌, ℕ, zero, suc, ◌<◌, ◌≤◌, Bool, true, false, List, [], ◌∷◌, length, Option, Some, None, refl, sym, ap, subst, ◌∙◌, arith, inl, inr, ◌⊎◌}
+use Rattle.std.specs.Prelude.{◌&&◌, ◌||◌, not, nat_le}
+use Rattle.std.proofs.lemmas.Bool.{le-leb, leb-true}
+use Rattle.mem_base.specs.declared.history.Ask.{Ask}
+use Rattle.mem_base.specs.declared.history.Ask.TheVariants as ask
+use Rattle.mem_base.specs.declared.history.Grant.{Grant}
+use Rattle.mem_base.specs.declared.history.Grant.TheVariants as grant
+use Rattle.layout_model.specs.Asks.{FitsClass, FitsRequest, class_asks, is_refused, raw_was_asked}
+use Rattle.layout_model.specs.Asks.Request.{FromPools, FromRaw}
+use Rattle.layout_model.specs.Layout.{Layout}
+use Rattle.layout_model.specs.Sizes.{class_of, is_small}
+use Rattle.extents.specs.Extent.{Extent, Window, AreDisjoint, LiesIn, covers, piece_extent, spans}
+use Rattle.extents.specs.Sums.{tally, Has, Inserted, Removed}
+use Rattle.extents.proofs.Addresses.{covers_in, covers_most, lies_spans}
+use Rattle.extents.proofs.Lists.{has_kept, has_more, has_new, length_inserted, tally_has, tally_zero}
+use Rattle.sources.specs.Holder.{Traded}
+use Rattle.sources.specs.Source.{ArenaShape, SourceView}
+use Rattle.py_heap.specs.Heap.{HeapView, RegionsAfter, RegionsBack}
+use Rattle.raw_heap.specs.Heap.{IsGot}
+use Rattle.raw_region.specs.Region.{PieceView}
+use Rattle.mem_base.specs.declared.trace.Letter.{Letter}
+use Rattle.debug_guard.specs.Guard.{Guard, guard_extent}
+use Rattle.domain_api.specs.declared.answers.Asked.{Asked}
+use Rattle.domain_api.specs.Domains.{IsGivenUp, IsLent}
+use Rattle.domain_api.specs.Held.{AllWithin, AreHeld, AreSound, DomainsView, IsLoan}
+
+-- ---- which heap
+
+-- a small block's place is in just one of the heap's regions
+pub owns_small : (heap : HeapView) (raws : List Extent) (e : Extent) → AreSound heap raws → Has e heap.loans → 1 ≤ e.len → tally (covers e.place) heap.regions ≡ 1
+owns_small heap raws e sound has some =
+    let w = sound.within e has in
+    let there : covers e.place w.0 ≡ 1 = covers_in e.place w.0 w.1.2 (omega (arith, some, w.1.3)) in
+    omega (arith, there, tally_has (covers e.place) w.0 heap.regions w.1.0, sound.regions e.place)
+
+zero_or_one : (n : ℕ) → n ≤ 1 → (n ≡ 0) ⊎ (n ≡ 1)
+zero_or_one zero few = inl refl
+zero_or_one (suc zero) few = inr refl
+zero_or_one (suc (suc n)) few = absurd (omega (arith, few))
+
+-- a raw block's place is in none
+pub owns_no_raw : (d : DomainsView) (arenas : SourceView ArenaShape) (raws : SourceView ℕ) (e : Extent) → AreHeld d arenas raws → Has e d.raws → 1 ≤ e.len → tally (covers e.place) d.heap.regions ≡ 0
+owns_no_raw d arenas raws e held has some =
+    let mine : spans e.place raws.window ≡ 1 = lies_spans e.place e raws.window (held.raws_in e has) (covers_in e.place e (omega arith) (omega (arith, some))) in
+    tally_zero (covers e.place) d.heap.regions (λ r there. by r there mine (covers e.place r) refl (covers_most e.place r))
+  where
+    by : (r : Extent) → Has r d.heap.regions → spans e.place raws.window ≡ 1 → (n : ℕ) → covers e.place r ≡ n → n ≤ 1 → n ≡ 0
+    by r there mine n is few = elim (zero_or_one n few) [
+      | inl none ↦ none
+      | inr one ↦ absurd (omega (arith, mine, lies_spans e.place r arenas.window (held.arenas_in r there) (is ∙ one), held.windows e.place))
+    ]
+
+-- ---- what is held
+
+-- one more extent of the window
+pub within_more : (e : Extent) (old new : List Extent) (w : Window) → AllWithin old w → LiesIn e w → Inserted e old new → AllWithin new w
+within_more e old new w all lies added d has = elim (has_more e d old new added has) [ inl same ↦ subst (λ (x : Extent). LiesIn x w) (sym same) lies | inr before ↦ all d before ]
+
+pub within_fewer : (e : Extent) (old new : List Extent) (w : Window) → AllWithin old w → Removed e old new → AllWithin new w
+within_fewer e old new w all gone d has = all d (has_kept e d new old gone has)
+
+-- what a request to the raw heap leaves
+pub got_within : (n : ℕ) (o : Option PieceView) (old new : List Extent) (seen : SourceView ℕ) → IsGot n o old new seen → AllWithin old seen.window → AllWithin new seen.window
+got_within n None old new seen same all = subst (λ (l : List Extent). AllWithin l seen.window) (sym same) all
+got_within n (Some p) old new seen block all = within_more (piece_extent p) old new seen.window all block.inside block.added
+
+-- the raw heap traded
+pub held_raw : (heap : HeapView) (old new : List Extent) (arenas : SourceView ArenaShape) (raws raws_then : SourceView ℕ) → AreHeld (record { heap = heap; raws = old }) arenas raws → Traded old new raws raws_then
+    → AllWithin new raws.window → AreHeld (record { heap = heap; raws = new }) arenas raws_then
+held_raw heap old new arenas raws raws_then held traded within = record {
+  arenas_out = held.arenas_out;
+  arenas_in = held.arenas_in;
+  raws_out = traded.held;
+  raws_in = subst (AllWithin new) (sym traded.window) within;
+  windows = subst (AreDisjoint arenas.window) (sym traded.window) held.windows;
+}
+
+-- the heap of small blocks traded
+pub held_heap : (old new : HeapView) (raw : List Extent) (arenas arenas_then : SourceView ArenaShape) (raws : SourceView ℕ) → AreHeld (record { heap = old; raws = raw }) arenas raws → Traded old.regions new.regions arenas arenas_then
+    → AllWithin new.regions arenas.window → AreHeld (record { heap = new; raws = raw }) arenas_then raws
+held_heap old new raw arenas arenas_then raws held traded within = record {
+  arenas_out = traded.held;
+  arenas_in = subst (AllWithin new.regions) (sym traded.window) within;
+  raws_out = held.raws_out;
+  raws_in = held.raws_in;
+  windows = subst (λ (w : Window). AreDisjoint w raws.window) (sym traded.window) held.windows;
+}
+
+-- ---- which answers fit
+
+both_small : (m : ℕ) → 1 ≤ m → m ≤ 512 → is_small m ≡ true
+both_small m low high = λ i. le-leb 1 m low i && le-leb m 512 high i
+
+too_large : (m : ℕ) → 512 < m → is_small m ≡ false
+too_large m large = by (nat_le m 512) refl
+  where
+    by : (b : Bool) → nat_le m 512 ≡ b → (nat_le 1 m && b) ≡ false
+    by true is = absurd (omega (arith, large, leb-true m 512 is))
+    by false is = nothing (nat_le 1 m)
+      where
+        nothing : (a : Bool) → (a && false) ≡ false
+        nothing true = refl
+        nothing false = refl
+
+not_refused : (g : Grant) → g ≢ grant.Refused → is_refused g ≡ false
+not_refused grant.NotAsked other = refl
+not_refused grant.Refused other = absurd (other refl)
+not_refused (grant.Granted pools) other = refl
+
+-- a small block that a pool gave
+pub fits_pooled : (l : Layout) (m : ℕ) (g : Grant) → 1 ≤ m → m ≤ 512 → FitsClass l (class_of m) g → g ≢ grant.Refused → FitsRequest l (FromPools m) g ask.NotAsked
+fits_pooled l m g low high fits other = record {
+  arena_asked = fits.asked ∙ sym (ap (λ (b : Bool). b && class_asks l (class_of m)) (both_small m low high));
+  raw_asked = sym ((λ i. not (both_small m low high i) || not_refused g other i));
+  pools = fits.pools;
+}
+
+-- one whose arena was refused, which the raw source was asked for
+pub fits_refused : (l : Layout) (m : ℕ) (raw : Ask) → 1 ≤ m → m ≤ 512 → FitsClass l (class_of m) grant.Refused → raw_was_asked raw ≡ true → FitsRequest l (FromPools m) grant.Refused raw
+fits_refused l m raw low high fits asked = record {
+  arena_asked = fits.asked ∙ sym (ap (λ (b : Bool). b && class_asks l (class_of m)) (both_small m low high));
+  raw_asked = asked ∙ sym (ap (λ (b : Bool). not b || true) (both_small m low high));
+  pools = tt;
+}
+
+-- one that is too large for a pool
+pub fits_large : (l : Layout) (m : ℕ) (raw : Ask) → 512 < m → raw_was_asked raw ≡ true → FitsRequest l (FromPools m) grant.NotAsked raw
+fits_large l m raw large asked = record {
+  arena_asked = sym (ap (λ (b : Bool). b && class_asks l (class_of m)) (too_large m large));
+  raw_asked = asked ∙ sym (ap (λ (b : Bool). not b || false) (too_large m large));
+  pools = tt;
+}
+
+-- one of the raw domain
+pub fits_raw : (l : Layout) (m : ℕ) (raw : Ask) → raw_was_asked raw ≡ true → FitsRequest l (FromRaw m) grant.NotAsked raw
+fits_raw l m raw asked = record { arena_asked = refl; raw_asked = asked; pools = tt }
+
+-- ---- what the heap of small blocks holds
+
+-- where the window has all regions that it held, it has those that it holds after a request
+pub regions_within : (g : Grant) (seen : SourceView ArenaShape) (old new : List Extent) → RegionsAfter g seen old new → AllWithin old seen.window → AllWithin new seen.window
+regions_within grant.NotAsked seen old new same all = subst (λ (l : List Extent). AllWithin l seen.window) (sym same) all
+regions_within grant.Refused seen old new same all = subst (λ (l : List Extent). AllWithin l seen.window) (sym same) all
+regions_within (grant.Granted pools) seen old new more all = within_more more.0 old new seen.window all more.1.3 more.1.0
+
+-- and after a block came back
+pub regions_left : (old new : HeapView) (w : Window) → RegionsBack old new → AllWithin old.regions w → AllWithin new.regions w
+regions_left old new w back all = elim back [
+  | inl same ↦ subst (λ (l : List Extent). AllWithin l w) (sym same.1) all
+  | inr gone ↦ within_fewer gone.1.0 old.regions new.regions w all gone.1.1
+]
+
+-- ---- whose a block is
+
+pub is_small_block : (d : DomainsView) (arenas : SourceView ArenaShape) (raws : SourceView ℕ) (e : Extent) → AreHeld d arenas raws → IsLoan e d → 1 ≤ e.len → tally (covers e.place) d.heap.regions ≡ 1 → Has e d.heap.loans
+is_small_block d arenas raws e held loan some owned = elim loan [ inl small ↦ small | inr raw ↦ absurd (omega (arith, owned, owns_no_raw d arenas raws e held raw some)) ]
+
+pub is_raw_block : (d : DomainsView) (e : Extent) → AreSound d.heap d.raws → IsLoan e d → 1 ≤ e.len → tally (covers e.place) d.heap.regions ≢ 1 → Has e d.raws
+is_raw_block d e sound loan some other = elim loan [ inl small ↦ absurd (other (owns_small d.heap d.raws e sound small some)) | inr raw ↦ raw ]
+
+-- ---- a block of new domains
+
+-- what was lent is a loan
+pub lent_is_loan : (v : Letter) (n : ℕ) (b : Guard) (asked : Asked) (old new : DomainsView) → IsLent v n b asked old new → IsLoan (guard_extent b) new
+lent_is_loan v n b asked old new lent = elim lent.lies [
+  | inl small ↦ inl (subst (λ (x : Extent). Has x new.heap.loans) small.there (has_new (piece_extent small.piece) old.heap.loans new.heap.loans small.serves.got.1.lent))
+  | inr raw ↦ inr (has_new (guard_extent b) old.raws new.raws raw.lent)
+]
+
+none_of : {X : Type 0} (l : List X) → length l ≡ 0 → l ≡ []
+none_of [] none = refl
+none_of (x ∷ xs) none = absurd (omega (arith, none))
+
+-- and once it is given up, nothing is lent
+pub all_given_up : (v : Letter) (n : ℕ) (b : Guard) (asked : Asked) (old new last : DomainsView) → IsLent v n b asked old new → IsGivenUp b new last → old.heap.loans ≡ [] → old.raws ≡ [] → (last.heap.loans ≡ []) × (last.raws ≡ [])
+all_given_up v n b asked old new last lent gone small_before raw_before = elim lent.lies [
+  | inl small ↦
+      let one = length_inserted (piece_extent small.piece) old.heap.loans new.heap.loans small.serves.got.1.lent in
+      let none_raw : length new.raws ≡ 0 = ap length (small.raws ∙ raw_before) in
+      elim gone [
+        | inl back ↦ (none_of last.heap.loans (omega (arith, one, ap length small_before, length_inserted (piece_extent back.0) last.heap.loans new.heap.loans back.2.back)), back.3 ∙ small.raws ∙ raw_before)
+        | inr back ↦ absurd (omega (arith, none_raw, length_inserted (guard_extent b) last.raws new.raws back.1))
+      ]
+  | inr raw ↦
+      let one = length_inserted (guard_extent b) old.raws new.raws raw.lent in
+      let none_small : length new.heap.loans ≡ 0 = ap length (ap (λ (h : HeapView). h.loans) raw.heap ∙ small_before) in
+      elim gone [
+        | inl back ↦ absurd (omega (arith, none_small, length_inserted (piece_extent back.0) last.heap.loans new.heap.loans back.2.back))
+        | inr back ↦ (ap (λ (h : HeapView). h.loans) (back.0 ∙ raw.heap) ∙ small_before, none_of last.raws (omega (arith, one, ap length raw_before, length_inserted (guard_extent b) last.raws new.raws back.1)))
+      ]
+]

@@ -1,0 +1,82 @@
+-- What the domains hold of the sources.
+use Rattle.std.specs.Prelude.{◌≡◌, ◌⊎◌, ℕ, ◌+◌, ◌^◌, ◌<◌, List, length}
+use Rattle.mem_base.specs.declared.reply.Counts.{Counts}
+use Rattle.event_model.specs.Requests.{raw_asks, raw_refusals}
+use Rattle.extents.specs.Extent.{Extent, Window, AreApart, AreDisjoint, LiesIn}
+use Rattle.extents.specs.Sums.{AllIn, Has}
+use Rattle.sources.specs.Source.{ArenaShape, SourceView}
+use Rattle.sources.specs.Holder.{Answered, AskedNothing, AskedOnce, Traded}
+use Rattle.py_heap.specs.Heap.{HeapView, AreWithin, arena_asks, arena_refusals}
+use Rattle.domain_api.specs.declared.answers.Asked.{Asked}
+
+-- the domains: the heap of small blocks, and the raw regions that they hold, each of which is a block
+pub record DomainsView : Type 0 where
+  pub heap : HeapView
+  pub raws : List Extent
+
+-- each of the extents lies in the window
+abbrev pub AllWithin : List Extent → Window → Type 0
+AllWithin es w = (e : Extent) → Has e es → LiesIn e w
+
+-- what the domains hold is out at the sources, in their windows, which do not meet
+pub record AreHeld (d : DomainsView) (arenas : SourceView ArenaShape) (raws : SourceView ℕ) : Type 0 where
+  pub arenas_out : AllIn d.heap.regions arenas.out
+  pub arenas_in : AllWithin d.heap.regions arenas.window
+  pub raws_out : AllIn d.raws raws.out
+  pub raws_in : AllWithin d.raws raws.window
+  pub windows : AreDisjoint arenas.window raws.window
+
+-- the extent is a block of one of the two heaps
+abbrev pub IsLoan : Extent → DomainsView → Type 0
+IsLoan e d = Has e d.heap.loans ⊎ Has e d.raws
+
+-- what always holds of the two heaps: blocks and regions lie apart, and each small block lies in one of the heap's regions
+pub record AreSound (heap : HeapView) (raws : List Extent) : Type 0 where
+  pub loans : AreApart heap.loans
+  pub within : AreWithin heap.loans heap.regions
+  pub regions : AreApart heap.regions
+  pub raws_apart : AreApart raws
+
+-- few enough arenas were granted and pools taken so far to number one more
+pub record FewTaken (d : DomainsView) : Type 0 where
+  pub arenas : d.heap.layout.given + 1 < 2 ^ 32
+  pub pools : length d.heap.layout.full < 2 ^ 63
+
+-- what the sources were asked in a call, and answered
+pub record AreAnswered (asked : Asked) (arenas arenas_then : SourceView ArenaShape) (raws raws_then : SourceView ℕ) : Type 0 where
+  pub arena : Answered (arena_asks asked.arena) (arena_refusals asked.arena) arenas arenas_then
+  pub raw : Answered (raw_asks asked.raw) (raw_refusals asked.raw) raws raws_then
+
+-- the plans of the sources are as before
+pub record SamePlans (arenas arenas_then : SourceView ArenaShape) (raws raws_then : SourceView ℕ) : Type 0 where
+  pub arena : arenas_then.plan ≡ arenas.plan
+  pub raw : raws_then.plan ≡ raws.plan
+
+-- the domains traded regions with the sources, and nothing else came or went
+pub record AreTraded (old new : DomainsView) (arenas arenas_then : SourceView ArenaShape) (raws raws_then : SourceView ℕ) : Type 0 where
+  pub arena : Traded old.heap.regions new.heap.regions arenas arenas_then
+  pub raw : Traded old.raws new.raws raws raws_then
+
+-- each source was asked at most once
+pub record AreAskedOnce (arenas arenas_then : SourceView ArenaShape) (raws raws_then : SourceView ℕ) : Type 0 where
+  pub arena : AskedOnce arenas arenas_then
+  pub raw : AskedOnce raws raws_then
+
+-- no source was asked
+pub record AreAskedNothing (arenas arenas_then : SourceView ArenaShape) (raws raws_then : SourceView ℕ) : Type 0 where
+  pub arena : AskedNothing arenas arenas_then
+  pub raw : AskedNothing raws raws_then
+
+-- each source can be asked once more, and few enough arenas and pools were taken to number one more
+pub record CanAsk (d : DomainsView) (arenas : SourceView ArenaShape) (raws : SourceView ℕ) : Type 0 where
+  pub arena : arenas.asked < 2 ^ 63
+  pub raw : raws.asked < 2 ^ 63
+  pub few : FewTaken d
+
+-- how many arenas were granted, given back and out at most, and how many blocks lie in them
+pub record HasCounts (d : DomainsView) (c : Counts) : Type 0 where
+  pub given : c.given ≡ d.heap.layout.given
+  pub back : c.back ≡ d.heap.layout.back
+  pub most : c.most ≡ d.heap.layout.most
+  pub out : c.out ≡ length d.heap.regions
+  pub pooled : c.pooled ≡ length d.heap.loans

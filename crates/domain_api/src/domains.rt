@@ -1,0 +1,267 @@
+ghost use Rattle.std.specs.Prelude.{◌≡◌, ◌≢◌, ◌+◌, ◌^◌, ◌<◌, ◌≤◌, [], Some, None, if◌then◌else◌, IfOk, OnErr};
+ghost use Rattle.event_model.specs.Effects.{asks, decision, is_unlocked};
+ghost use Rattle.mem_base.specs.declared.trace.Letter.TheVariants as letters;
+ghost use Rattle.debug_guard.specs.Guard.{guard_extent};
+ghost use Rattle.event_model.specs.Requests.{raw_asks, raw_refusals};
+ghost use Rattle.sources.specs.Holder.{Answered, AskedOnce, Traded};
+ghost use Rattle.py_heap.specs.Heap.{empty_heap};
+ghost use Rattle.domain_api.specs.Domains.{IsFreed, IsGivenUp, IsMade, IsTaken, IsTakenRaw, view_of_both};
+ghost use Rattle.domain_api.specs.Held.{AreAnswered, AreAskedNothing, AreAskedOnce, AreHeld, AreTraded, CanAsk, HasCounts, IsLoan, SamePlans};
+
+use crate::answers::{Asked, Freed, Got, Made};
+use crate::decide::{Decision, decide, is_unlocked_call};
+use debug_guard::{Guarded, check, dress, kill, size};
+use mem_base::limits::HOOK_BYTES;
+use mem_base::{Ask, Counts, Fault, Grant, Letter, View};
+use py_heap::{Heap, HeapGot};
+use raw_heap::{RawGot, RawHeap};
+use sources::{ArenaSource, RawSource};
+use std::alloc::{AllocError, Global};
+use std::marker::Model;
+
+/// The blocks of all three domains. It must be spent by `end`, once no block is left.
+pub struct Domains {
+    heap: Heap,
+    raw: RawHeap,
+}
+
+impl Model for Domains {
+    ghost use Rattle.domain_api.specs.Held.{DomainsView, AreSound};
+
+    ghost Value = { DomainsView };
+
+    ghost view = { λ d. record { heap = d.heap; raws = d.raw } };
+
+    ghost invariant = { λ d. AreSound d.heap d.raw };
+}
+
+/// No source was asked.
+const NOT_ASKED: Asked = Asked {
+    arena: Grant::NotAsked,
+    raw: Ask::NotAsked,
+};
+
+impl Domains {
+    /// Domains without blocks. The error is that there was no memory.
+    pub fn new(alloc: Global) -> Result<Domains, AllocError>
+        ensures { IfOk result (λ d. d ≡ record { heap = empty_heap; raws = [] }) }
+    {
+        let raw = RawHeap::new(alloc)?;
+        match Heap::new(alloc) {
+            Ok(heap) => Ok(Domains { heap, raw }),
+            Err(error) => {
+                raw.end();
+                Err(error)
+            }
+        }
+    }
+
+    // A block of n bytes in a region of its own, after the arena source gave this answer.
+    fn take_raw<A: ArenaSource, R: RawSource>(
+        &mut self,
+        letter: Letter,
+        n: u64,
+        arena: Grant,
+        arenas: &mut A,
+        raws: &mut R,
+    ) -> Result<Made, AllocError>
+        requires fits { n + 24 < 2 ^ 63 }
+        requires count { (R.seen raws.old).asked < 2 ^ 63 }
+        requires held { AreHeld self.old (A.seen arenas.old) (R.seen raws.old) }
+        ensures made { IfOk result (λ made. IsTakenRaw letter n self.old self.new made.got made.asked) }
+        ensures arena { IfOk result (λ made. made.asked.arena ≡ arena) }
+        ensures raw { IfOk result (λ made. Answered (raw_asks made.asked.raw) (raw_refusals made.asked.raw) (R.seen raws.old) (R.seen raws.new)) }
+        ensures plan { (R.seen raws.new).plan ≡ (R.seen raws.old).plan }
+        ensures failed { OnErr result (self.new ≡ self.old) }
+        ensures once { OnErr result (AskedOnce (R.seen raws.old) (R.seen raws.new)) }
+        ensures traded { Traded self.old.raws self.new.raws (R.seen raws.old) (R.seen raws.new) }
+        ensures heap { self.new.heap ≡ self.old.heap }
+        ensures held { AreHeld self.new (A.seen arenas.new) (R.seen raws.new) }
+        ensures arenas { A.seen arenas.new ≡ A.seen arenas.old }
+    {
+        let RawGot { piece } = self.raw.alloc(n + HOOK_BYTES, raws)?;
+        Ok(match piece {
+            Some(piece) => Made {
+                got: Got::Block(dress(piece, letter, n, false)),
+                asked: Asked {
+                    arena,
+                    raw: Ask::Granted,
+                },
+            },
+            None => Made {
+                got: Got::Null,
+                asked: Asked {
+                    arena,
+                    raw: Ask::Refused,
+                },
+            },
+        })
+    }
+
+    // A block of n bytes in a pool, or in a region of its own where it is too large for one or its
+    // arena was refused.
+    fn take_pooled<A: ArenaSource, R: RawSource>(
+        &mut self,
+        letter: Letter,
+        n: u64,
+        arenas: &mut A,
+        raws: &mut R,
+    ) -> Result<Made, AllocError>
+        requires pooled { letter ≢ letters.Raw }
+        requires fits { n + 24 < 2 ^ 63 }
+        requires ask { CanAsk self.old (A.seen arenas.old) (R.seen raws.old) }
+        requires held { AreHeld self.old (A.seen arenas.old) (R.seen raws.old) }
+        ensures taken { IfOk result (λ made. IsTaken letter n self.old self.new made.got made.asked) }
+        ensures answered { IfOk result (λ made. AreAnswered made.asked (A.seen arenas.old) (A.seen arenas.new) (R.seen raws.old) (R.seen raws.new)) }
+        ensures plans { SamePlans (A.seen arenas.old) (A.seen arenas.new) (R.seen raws.old) (R.seen raws.new) }
+        ensures failed { OnErr result (self.new ≡ self.old) }
+        ensures once { OnErr result (AreAskedOnce (A.seen arenas.old) (A.seen arenas.new) (R.seen raws.old) (R.seen raws.new)) }
+        ensures traded { AreTraded self.old self.new (A.seen arenas.old) (A.seen arenas.new) (R.seen raws.old) (R.seen raws.new) }
+        ensures held { AreHeld self.new (A.seen arenas.new) (R.seen raws.new) }
+    {
+        let HeapGot { piece, grant } = self.heap.alloc(n + HOOK_BYTES, arenas)?;
+        match piece {
+            Some(piece) => Ok(Made {
+                got: Got::Block(dress(piece, letter, n, false)),
+                asked: Asked {
+                    arena: grant,
+                    raw: Ask::NotAsked,
+                },
+            }),
+            None => self.take_raw(letter, n, grant, arenas, raws),
+        }
+    }
+
+    /// A block of n bytes of data in the letter's domain. With the 24 bytes of the hooks it lies in a
+    /// pool where the domain is not raw and there are at most 512, and no arena was refused; else in a
+    /// region of its own. It is null where the size is too great or the raw source refused, and a fault
+    /// where the domain needs the interpreter lock and the call does not have it. The error is that
+    /// there was no memory; then nothing has changed, and all that a source granted has gone back.
+    pub fn malloc<A: ArenaSource, R: RawSource>(
+        &mut self,
+        letter: Letter,
+        n: u64,
+        locked: bool,
+        arenas: &mut A,
+        raws: &mut R,
+    ) -> Result<Made, AllocError>
+        requires ask { CanAsk self.old (A.seen arenas.old) (R.seen raws.old) }
+        requires held { AreHeld self.old (A.seen arenas.old) (R.seen raws.old) }
+        ensures made { IfOk result (λ made. IsMade letter n locked self.old self.new made.got made.asked) }
+        ensures answered { IfOk result (λ made. AreAnswered made.asked (A.seen arenas.old) (A.seen arenas.new) (R.seen raws.old) (R.seen raws.new)) }
+        ensures plans { SamePlans (A.seen arenas.old) (A.seen arenas.new) (R.seen raws.old) (R.seen raws.new) }
+        ensures failed { OnErr result (self.new ≡ self.old) }
+        ensures once { OnErr result (AreAskedOnce (A.seen arenas.old) (A.seen arenas.new) (R.seen raws.old) (R.seen raws.new)) }
+        ensures traded { AreTraded self.old self.new (A.seen arenas.old) (A.seen arenas.new) (R.seen raws.old) (R.seen raws.new) }
+        ensures held { AreHeld self.new (A.seen arenas.new) (R.seen raws.new) }
+    {
+        match decide(letter, n, locked) {
+            Decision::TooGreat => Ok(Made {
+                got: Got::Null,
+                asked: NOT_ASKED,
+            }),
+            Decision::LacksLock => Ok(Made {
+                got: Got::Fault(Fault::Unlocked),
+                asked: NOT_ASKED,
+            }),
+            Decision::Asks => match letter {
+                Letter::Raw => self.take_raw(letter, n, Grant::NotAsked, arenas, raws),
+                Letter::Mem | Letter::Obj => self.take_pooled(letter, n, arenas, raws),
+            },
+        }
+    }
+
+    /// The fault of a call that needs the interpreter lock and does not have it.
+    pub fn need(&self, letter: Letter, locked: bool) -> Option<Fault>
+        ensures { result ≡ (if is_unlocked letter locked then Some Fault.Unlocked else None) }
+    {
+        if is_unlocked_call(letter, locked) {
+            Some(Fault::Unlocked)
+        } else {
+            None
+        }
+    }
+
+    /// Gives up a block, unless the call lacks the lock that it needs or the check of the block finds
+    /// damage. Then the block comes back as it was. This takes no memory.
+    pub fn free<A: ArenaSource, R: RawSource>(
+        &mut self,
+        old: Guarded,
+        letter: Letter,
+        locked: bool,
+        arenas: &mut A,
+        raws: &mut R,
+    ) -> Freed
+        requires loan { IsLoan (guard_extent old) self.old }
+        requires held { AreHeld self.old (A.seen arenas.old) (R.seen raws.old) }
+        ensures freed { IsFreed letter locked old self.old self.new result }
+        ensures nothing { AreAskedNothing (A.seen arenas.old) (A.seen arenas.new) (R.seen raws.old) (R.seen raws.new) }
+        ensures traded { AreTraded self.old self.new (A.seen arenas.old) (A.seen arenas.new) (R.seen raws.old) (R.seen raws.new) }
+        ensures held { AreHeld self.new (A.seen arenas.new) (R.seen raws.new) }
+    {
+        if is_unlocked_call(letter, locked) {
+            return Freed::Fault(old, Fault::Unlocked);
+        }
+        match check(&old, letter) {
+            Some(found) => Freed::Fault(old, found),
+            None => {
+                self.drop_block(old, arenas, raws);
+                Freed::Done
+            }
+        }
+    }
+
+    /// Gives up a block without any check of it.
+    pub fn drop_block<A: ArenaSource, R: RawSource>(
+        &mut self,
+        g: Guarded,
+        arenas: &mut A,
+        raws: &mut R,
+    )
+        requires loan { IsLoan (guard_extent g) self.old }
+        requires held { AreHeld self.old (A.seen arenas.old) (R.seen raws.old) }
+        ensures back { IsGivenUp g self.old self.new }
+        ensures nothing { AreAskedNothing (A.seen arenas.old) (A.seen arenas.new) (R.seen raws.old) (R.seen raws.new) }
+        ensures traded { AreTraded self.old self.new (A.seen arenas.old) (A.seen arenas.new) (R.seen raws.old) (R.seen raws.new) }
+        ensures held { AreHeld self.new (A.seen arenas.new) (R.seen raws.new) }
+    {
+        // A block has bytes, so its first one tells whose it is.
+        let _size = size(&g);
+        let piece = kill(g);
+        if self.heap.owns(piece.place()) {
+            self.heap.free(piece, arenas);
+        } else {
+            self.raw.free(piece, raws);
+        }
+    }
+
+    /// How many arenas were granted, given back and out at most, and how many blocks lie in them.
+    pub fn counts(&self) -> Counts
+        ensures { HasCounts self.now result }
+    {
+        self.heap.counts()
+    }
+
+    /// The shape of the heap of small blocks, and how many blocks are regions of their own. The error is
+    /// that there was no memory for it.
+    pub fn view(&self) -> Result<View, AllocError>
+        ensures { IfOk result (λ view. view ≡ view_of_both self.now) }
+    {
+        let mut view = self.heap.view()?;
+        view.raws = self.raw.live();
+        Ok(view)
+    }
+
+    /// Gives up the domains, of which no block is left. The arenas go back to their source.
+    pub fn end<A: ArenaSource, R: RawSource>(self, arenas: &mut A, raws: &mut R)
+        requires none { (self.heap.loans ≡ []) × (self.raws ≡ []) }
+        requires held { AreHeld self (A.seen arenas.old) (R.seen raws.old) }
+        ensures nothing { AreAskedNothing (A.seen arenas.old) (A.seen arenas.new) (R.seen raws.old) (R.seen raws.new) }
+        ensures arenas { Traded self.heap.regions [] (A.seen arenas.old) (A.seen arenas.new) }
+        ensures raws { R.seen raws.new ≡ R.seen raws.old }
+    {
+        let Domains { heap, raw } = self;
+        heap.end(arenas);
+        raw.end();
+    }
+}

@@ -1,0 +1,12 @@
+//! The three domains of the allocator, raw, mem and object, with the debug hooks on.
+#![tactic(auto)]
+
+mod answers;
+mod decide;
+mod domains;
+
+pub use answers::{Asked, Freed, Got, Made};
+pub use domains::Domains;
+
+#[cfg(test)]
+mod tests;

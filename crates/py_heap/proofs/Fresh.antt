@@ -1,0 +1,206 @@
+-- The first block of a new pool.
+use Rattle.std.proofs.Common.{◌≡◌, ◌≢◌, ℕ, ◌+◌, ◌-◌, ◌<◌, ◌≤◌, Bool, inl, inr, [], ◌∷◌, map, length, get_or, set, Option, Some, None, refl, sym, ap, subst, ◌∙◌, arith}
+use Rattle.std.proofs.lemmas.Bool.Decides.{eqb_tells}
+use Rattle.std.proofs.Math.Nat.{zero-div}
+use Rattle.std.proofs.lemmas.List.{get_or_past, map-set, length-set, get_or-set_same, get_or-set_other}
+use Rattle.mem_base.specs.declared.history.Grant.TheVariants.{NotAsked}
+use Rattle.raw_region.specs.Region.{PieceView}
+use Rattle.extents.specs.Sums.{tally, Has, Inserted}
+use Rattle.extents.specs.Extent.{piece_extent, AreApart}
+use Rattle.extents.proofs.Lists.{tally_inserted, length_inserted, inserted-map}
+use Rattle.layout_model.specs.Sizes.{size_of_class, capacity}
+use Rattle.layout_model.proofs.Place.{many}
+use Rattle.links.specs.Nodes.{times}
+use Rattle.pool_core.specs.Pool.{PoolView, live_of, new_pool, HasRoom}
+use Rattle.pool_core.proofs.Moves.{new_is_pool}
+use Rattle.heap_view.specs.Tables.{PoolLine, spot_of, with_one_more}
+use Rattle.heap_view.specs.View.{places_of}
+use Rattle.heap_view.specs.Laws.{IsPlaced}
+use Rattle.heap_view.proofs.Placed.{new_pool_is_placed}
+use Rattle.heap_view.proofs.Places.{places_long}
+use Rattle.heap_view.proofs.Counts.{started_and_lent}
+use Rattle.arena_set.specs.declared.pool_id.PoolId.{PoolId}
+use Rattle.arena_set.specs.declared.started.Started.{Started}
+use Rattle.arena_set.specs.Arena.{ArenaView, after_start, started_times}
+use Rattle.arena_set.specs.Set.{SetView, pools_of, regions_of, loans_of, usable_of, dry_of, IsSet}
+use Rattle.arena_set.specs.Calls.{IsFirst, IsStarted, CanStart, CanLend, TakesPool, Starts, Lends}
+use Rattle.arena_set.specs.Rule.{GavePool}
+use Rattle.arena_set.proofs.Flats.{inside}
+use Rattle.py_heap.specs.Heap.{Serves}
+use Rattle.py_heap.specs.Kept.{ClassView, State, no_pools, spot, spots_of, line_of, lines_of, sites_of, tables_of, heap_of, class_at, full_in, IsKeptState}
+use Rattle.py_heap.proofs.Arenas.{line_at, line_there, at_once, arena_at, sites_same}
+use Rattle.py_heap.proofs.Lending.{LentOf, lent_of, not_full_in, lists_at}
+
+-- a new pool has no block in use
+live_new : (arena c : ℕ) → c < 32 → live_of (new_pool arena c) ≡ 0
+live_new arena c small = let p = new_is_pool arena c small in let live = p.live in let z = zero-div (size_of_class c) in omega arith
+
+module _ (old : State) (k : IsKeptState old) (c n : ℕ) (small : c < 32) (none : (class_at old c).spots ≡ []) (first : IsFirst old.set n) (plain : PoolView) (is_new : plain ≡ new_pool n c)
+    (set1 : SetView) (id : PoolId) (taken : TakesPool old.set set1 id) (gave : GavePool id.arena old.set set1) (regions1 : regions_of set1.arenas ≡ regions_of old.set.arenas)
+    (loans1 : loans_of set1.arenas ≡ loans_of old.set.arenas) (pools1 : pools_of set1.arenas ≡ pools_of old.set.arenas) (sound1 : IsSet set1) where
+  same_arena : n ≡ id.arena
+  same_arena =
+      let e = first.usable in let d = taken.first in let heads : n - 1 ≡ id.arena - 1 = cc in
+      let a = first.some in let b = taken.at.some in omega arith
+
+  -- no pool is started there
+  no_pool : get_or taken.a.pools id.pool None ≡ None
+  no_pool =
+      let free = (arena_at old.set id.arena taken.a k.sound_set taken.at).free id.pool in
+      let one : 1 ≤ times id.pool taken.a.free = subst (λ l. 1 ≤ times id.pool l) (sym taken.pool) (elim (eqb_tells id.pool id.pool) [ inl w ↦ rw w.0 (omega arith) | inr w ↦ absurd (w.1 refl) ]) in
+      none_started (get_or taken.a.pools id.pool None) (omega arith) where
+        none_started : (o : Option Started) → started_times o ≡ 0 → o ≡ None
+        none_started None e = refl
+        none_started (Some s) e = absurd (omega arith)
+
+  plain_is : plain ≡ new_pool id.arena plain.class
+  plain_is = subst (λ m. plain ≡ new_pool m plain.class) same_arena (is_new ∙ ap (new_pool n) (sym (ap (λ (p : PoolView). p.class) is_new)))
+
+  pub can_start : CanStart set1 id plain
+  can_start = record { a = record taken.a { free = taken.left }; pool = taken.taken; fresh = no_pool; new = plain_is }
+
+  -- the pool is started
+  module _ (set2 : SetView) (starts : Starts set1 set2 id (record { number = old.taken; pool = plain })) (regions2 : regions_of set2.arenas ≡ regions_of set1.arenas)
+      (loans2 : loans_of set2.arenas ≡ loans_of set1.arenas) (same2 : (usable_of set2 ≡ usable_of set1) × (dry_of set2 ≡ dry_of set1)) (sound2 : IsSet set2) where
+    abbrev s : Started
+    s = record { number = old.taken; pool = plain }
+
+    abbrev a2 : ArenaView
+    a2 = after_start starts.a id.pool s
+
+    pub started : IsStarted set2 id a2 s
+    started =
+        let some = starts.at.some in
+        let lt = inside set1.arenas (id.arena - 1) starts.a starts.at.there in
+        let low : id.pool < length starts.a.pools = subst (λ (z : ArenaView). id.pool < length z.pools) (at_once set1 id.arena _ starts.a taken.taken.at starts.at) taken.taken.inside in
+        record {
+          at = record { some = some; there = ap (λ l. get_or l (id.arena - 1) None) starts.arena.arenas ∙ get_or-set_same set1.arenas (id.arena - 1) (Some a2) None lt };
+          there = get_or-set_same starts.a.pools id.pool (Some s) None low;
+        }
+
+    idle : live_of plain ≡ 0
+    idle = ap live_of is_new ∙ live_new n c small
+
+    class_is : plain.class ≡ c
+    class_is = ap (λ (p : PoolView). p.class) is_new
+
+    has_room : HasRoom plain
+    has_room = let z = idle in let m = many c small in let e = ap capacity class_is in omega arith
+
+    pub can_lend_new : CanLend set2 id
+    can_lend_new = record { a = a2; s = s; started = started; room = has_room }
+
+    -- and lends a block
+    module _ (set3 : SetView) (piece : PieceView) (full : Bool) (lends : Lends set2 set3 id piece full) (loans3 : Inserted (piece_extent piece) (loans_of set2.arenas) (loans_of set3.arenas))
+        (apart : AreApart (loans_of set3.arenas)) (regions3 : regions_of set3.arenas ≡ regions_of set2.arenas) (same3 : (usable_of set3 ≡ usable_of set2) × (dry_of set3 ≡ dry_of set2)) (sound3 : IsSet set3)
+        (v : ClassView) (spots : v.spots ≡ spot id ∷ (class_at old c).spots) (fulls : v.full ≡ (class_at old c).full) where
+      lent : LentOf (line_at id a2 s) piece full set2 set3
+      lent = lent_of set2 set3 id piece full a2 s sound2 started has_room lends
+
+      abbrev new : State
+      new = record old { set = set3; classes = set old.classes c v; taken = old.taken + 1; pooled = old.pooled + 1 }
+
+      abbrev y : PoolLine
+      y = with_one_more (line_at id a2 s)
+
+      base_is : starts.a.region.base ≡ taken.a.region.base
+      base_is = ap (λ (z : ArenaView). z.region.base) (sym (at_once set1 id.arena _ starts.a taken.taken.at starts.at))
+
+      came : Inserted y (lines_of old.set.arenas) (lines_of set3.arenas)
+      came =
+          let first_come : Inserted (line_at id a2 s) (lines_of old.set.arenas) (lines_of set2.arenas) =
+          subst (λ l. Inserted (line_at id a2 s) (map line_of l) (lines_of set2.arenas)) pools1 (inserted-map line_of _ (pools_of set1.arenas) (pools_of set2.arenas) starts.pools) in
+          started_and_lent (tables_of old) (line_at id a2 s) (lines_of set2.arenas) (lines_of set3.arenas) k.kept refl first_come (lent).lines
+
+      apart_spots : (x : PoolLine) → Has x (lines_of old.set.arenas) → spot_of x ≢ spot_of y
+      apart_spots x here e =
+          let l = line_there old.set x here in
+          let same : l.id ≡ id = λ i. record { arena = ((ap spot_of l.is ∙ e) i).arena; pool = ((ap spot_of l.is ∙ e) i).slot } in
+          let st : IsStarted old.set id l.a l.s = subst (λ (p : PoolId). IsStarted old.set p l.a l.s) same l.started in
+          let arena = at_once old.set id.arena l.a taken.a st.at taken.at in
+          let there : get_or taken.a.pools id.pool None ≡ Some l.s = subst (λ (z : ArenaView). get_or z.pools id.pool None ≡ Some l.s) arena st.there in
+          let no = no_pool in cc
+
+      one_live : y.live ≡ 1
+      one_live = let z = idle in omega arith
+
+      pub regions_are : regions_of set3.arenas ≡ regions_of old.set.arenas
+      regions_are = regions3 ∙ regions2 ∙ regions1
+
+      loans_are : Inserted (piece_extent piece) (loans_of old.set.arenas) (loans_of set3.arenas)
+      loans_are = subst (λ l. Inserted (piece_extent piece) l (loans_of set3.arenas)) (loans2 ∙ loans1) loans3
+
+      sites_are : sites_of set3.arenas ≡ sites_of old.set.arenas
+      sites_are =
+          (lent).sites ∙ (ap sites_of starts.arena.arenas ∙ sites_same set1.arenas id.arena starts.a a2 starts.at.some starts.at.there refl)
+          ∙ (ap sites_of taken.arenas ∙ sites_same old.set.arenas id.arena taken.a (record taken.a { free = taken.left }) taken.at.some taken.at.there refl)
+
+      count_is : length set3.arenas ≡ length old.set.arenas
+      count_is = (lent).count ∙ (ap length starts.arena.arenas ∙ length-set set1.arenas (id.arena - 1) (Some a2)) ∙ (ap length taken.arenas ∙ length-set old.set.arenas (id.arena - 1) _)
+
+      placed : IsPlaced c NotAsked y (tables_of old) (tables_of new)
+      placed = new_pool_is_placed c y gave.u gave.us (tables_of old) (tables_of new) small k.kept
+          (record {
+            none = (lists_at old c k.kept small).1 ∙ none;
+            pool = (refl, class_is, sym gave.number, one_live);
+            free = apart_spots;
+            started = came;
+            lists = map-set spots_of old.classes c v ∙ ap (set (map spots_of old.classes) c) (spots ∙ ap (λ l. spot id ∷ l) none);
+            taken = refl;
+          })
+          (record {
+            first = gave.first;
+            usable = same3.0 ∙ same2.0 ∙ gave.usable;
+            dry = same3.1 ∙ same2.1 ∙ gave.dry;
+            given = refl;
+            back = refl;
+            most = refl;
+          })
+
+      full_is : (d : ℕ) → (class_at new d).full ≡ (class_at old d).full
+      full_is d = elim (eqb_tells d c) [
+        | inl w ↦ let at : class_at new d ≡ v = ap (λ j. get_or (set old.classes c v) j no_pools) w.1 ∙ get_or-set_same old.classes c v no_pools (lists_at old c k.kept small).0 in
+            ap (λ (z : ClassView). z.full) at ∙ fulls ∙ ap (λ j. (class_at old j).full) (sym w.1)
+        | inr w ↦ ap (λ (z : ClassView). z.full) (get_or-set_other old.classes c d v no_pools w.1)
+      ]
+
+      half : y.live ≢ capacity y.class
+      half e = let o = one_live in let m = many c small in let k = ap capacity class_is in absurd (omega arith)
+
+      pub new_kept : IsKeptState new
+      new_kept = record {
+        kept = (placed).kept;
+        sound_set = sound3;
+        apart = apart;
+        numbered = k.numbered ∙ sym count_is;
+        few = k.few;
+        out = let r = ap length regions_are in let o = k.out in omega arith;
+        lent = let l = k.lent in let i = length_inserted (piece_extent piece) (loans_of old.set.arenas) (loans_of set3.arenas) loans_are in omega arith;
+        marked = λ f. k.marked f ∙ ap (tally f) (sym sites_are);
+        full = λ d. let t = tally_inserted (full_in d) y (lines_of old.set.arenas) (lines_of set3.arenas) came in let z = not_full_in d y half in let o = k.full d in let f = full_is d in omega arith;
+      }
+
+      pub new_serves : Serves c NotAsked (Some piece) (heap_of old) (heap_of new)
+      new_serves = record {
+        fits = (placed).fits;
+        layout = (placed).layout;
+        got = (
+          (λ e. cc),
+          record {
+            pool = y.number;
+            begins = y.place;
+            region = (lent).region;
+            placed = (placed).pool;
+            is = (placed).place;
+            was = inl (get_or_past (places_of (tables_of old)) old.taken None (let l = places_long (tables_of old) in omega arith));
+            others = (placed).others;
+            held = subst (Has (lent).region) (sym regions3) (lent).held;
+            ground = (lent).ground;
+            inside = (lent).inside;
+            maker = (lent).maker;
+            len = (lent).len ∙ ap size_of_class class_is;
+            aligned = (lent).aligned;
+            lent = loans_are;
+          },
+        );
+      }

@@ -1,0 +1,205 @@
+-- Room is made, and an arena comes.
+use Rattle.std.proofs.Common.{◌≡◌, ℕ, zero, suc, ◌+◌, ◌-◌, ◌%◌, ◌<◌, ◌≤◌, ◌^◌, max, ◌&&◌, true, inl, inr, List, [], ◌∷◌, ◌++◌, map, length, get_or, set, Some, None, refl, sym, ap, subst, ◌∙◌, arith}
+use Rattle.std.proofs.lemmas.Bool.Decides.{eqb_tells}
+use Rattle.std.proofs.lemmas.List.{get_or-map, length-map, length-append, get_or-set_same, get_or-set_other, map-set}
+use Rattle.mem_base.specs.declared.history.Grant.TheVariants.{NotAsked, Granted}
+use Rattle.raw_region.specs.Region.{RegionView, PieceView}
+use Rattle.extents.specs.Sums.{tally, Inserted}
+use Rattle.extents.specs.Extent.{region_extent, piece_extent, AreApart}
+use Rattle.extents.proofs.Lists.{tally-append, length_inserted}
+use Rattle.layout_model.specs.Layout.{Layout}
+use Rattle.layout_model.specs.Place.{Placed, place, place_by, pools_of_class, granted, new_arena}
+use Rattle.layout_model.specs.Asks.{is_empty, class_asks}
+use Rattle.layout_model.specs.Sound.{IsSound}
+use Rattle.layout_model.proofs.Place.{granted_keeps}
+use Rattle.heap_view.specs.View.{layout_of, places_of, place_in, used_at, used_of, full_of}
+use Rattle.heap_view.specs.Kept.{IsKept, AreOrderly}
+use Rattle.heap_view.specs.Ground.{Site}
+use Rattle.std.specs.List.{range_with_len}
+use Rattle.links.specs.Nodes.{times}
+use Rattle.arena_set.specs.Flat.{AllSome}
+use Rattle.arena_set.specs.Set.{SetView, lines_of as lines_of_arenas, pools_of, regions_of, loans_of, usable_of, dry_entry, usable_times, IsSet}
+use Rattle.arena_set.specs.Arena.{IsArena, total_at, new_arena as first_arena}
+use Rattle.arena_set.specs.Rule.{CameAlone}
+use Rattle.py_heap.specs.Heap.{BeginsIfThere, Serves}
+use Rattle.py_heap.specs.Kept.{ClassView, MarksView, State, no_pools, spots_of, line_of, lines_of, sites_of, tables_of, heap_of, class_at, full_in, IsKeptState}
+use Rattle.py_heap.specs.Steps.{OnlyRoom, Comes}
+use Rattle.py_heap.proofs.Arenas.{sites_more}
+use Rattle.py_heap.proofs.Lending.{lists_at}
+
+-- ---- room
+
+set_kept : (old new : SetView) → new.usable ≡ old.usable → new.arenas ≡ old.arenas → IsSet old → IsSet new
+set_kept old new usable arenas s = record {
+  listed = λ i. ap (times i) usable ∙ s.listed i ∙ ap (λ es. usable_times (get_or es i None)) (sym arenas);
+  arenas = subst (AllSome IsArena) (sym arenas) s.arenas;
+  apart = subst (λ es. AreApart (regions_of es)) (sym arenas) s.apart;
+}
+
+module _ (old new : State) (r : OnlyRoom old new) where
+  same_tables : tables_of new ≡ tables_of old
+  same_tables i = record {
+    usable = lines_of_arenas (r.arenas i) (r.usable i);
+    dry = None ∷ map dry_entry (r.arenas i);
+    started = lines_of (r.arenas i);
+    lists = r.lists i;
+    taken = r.taken i;
+    given = r.given i;
+    back = r.back i;
+    most = r.most i;
+  }
+
+  pub room_heap : heap_of new ≡ heap_of old
+  room_heap i = record { layout = layout_of (same_tables i); places = places_of (same_tables i); loans = loans_of (r.arenas i); regions = regions_of (r.arenas i) }
+
+  pub room_kept : IsKeptState old → IsKeptState new
+  room_kept k = record {
+    kept = subst IsKept (sym same_tables) k.kept;
+    sound_set = set_kept old.set new.set r.usable r.arenas k.sound_set;
+    apart = subst (λ es. AreApart (loans_of es)) (sym r.arenas) k.apart;
+    numbered = r.given ∙ k.numbered ∙ ap length (sym r.arenas);
+    few = let e = r.given in let f = k.few in omega arith;
+    out = let g = r.given in let b = r.back in let o = k.out in let e = ap (λ es. length (regions_of es)) r.arenas in omega arith;
+    lent = r.pooled ∙ k.lent ∙ ap (λ es. length (loans_of es)) (sym r.arenas);
+    marked = λ f. ap (tally f) r.sites ∙ k.marked f ∙ ap (λ es. tally f (sites_of es)) (sym r.arenas);
+    full = λ c. r.full c ∙ k.full c ∙ ap (λ es. tally (full_in c) (lines_of es)) (sym r.arenas);
+  }
+
+  -- a class without pools that have a free block stays so
+  pub room_none : IsKeptState old → (c : ℕ) → c < 32 → (class_at old c).spots ≡ [] → (class_at new c).spots ≡ []
+  room_none k c small none = sym (lists_at new c (room_kept k).kept small).1 ∙ (ap (λ l. get_or l c []) r.lists ∙ ((lists_at old c k.kept small).1 ∙ none))
+
+-- a class has more room
+pub class_room : (s : State) (c : ℕ) (v : ClassView) → c < length s.classes → v.spots ≡ (class_at s c).spots → v.full ≡ (class_at s c).full → OnlyRoom s (record s { classes = set s.classes c v })
+class_room s c v lt spots fulls = record {
+  usable = refl;
+  arenas = refl;
+  lists = map-set spots_of s.classes c v ∙ (ap (set (map spots_of s.classes) c) (spots ∙ sym (get_or-map spots_of s.classes c no_pools [] lt)) ∙ set_same (map spots_of s.classes) c []);
+  full = λ d. elim (eqb_tells d c) [
+    | inl w ↦ ap (λ (z : ClassView). z.full) (ap (λ j. get_or (set s.classes c v) j no_pools) w.1 ∙ get_or-set_same s.classes c v no_pools lt) ∙ fulls ∙ ap (λ j. (class_at s j).full) (sym w.1)
+    | inr w ↦ ap (λ (z : ClassView). z.full) (get_or-set_other s.classes c d v no_pools w.1)
+  ];
+  sites = refl;
+  taken = refl;
+  given = refl;
+  back = refl;
+  most = refl;
+  pooled = refl;
+} where
+  set_same : {X : Type 0} (xs : List X) (i : ℕ) (d : X) → set xs i (get_or xs i d) ≡ xs
+  set_same [] i d = refl
+  set_same (x ∷ xs) zero d = refl
+  set_same (x ∷ xs) (suc i) d = ap (λ l. x ∷ l) (set_same xs i d)
+
+-- ---- an arena
+
+-- an arena has 63 pools or 64
+some_pools : (base : ℕ) → (63 ≤ total_at base) × (total_at base ≤ 64)
+some_pools base = elim (eqb_tells (base % 16384) 0) as (λ _. (63 ≤ total_at base) × (total_at base ≤ 64)) [ inl w ↦ rw w.0 (omega arith, omega arith) | inr w ↦ rw w.0 (omega arith, omega arith) ]
+
+module _ (old : State) (k : IsKeptState old) (r : RegionView) (set1 : SetView) (m : MarksView) (none : old.set.usable ≡ []) (few : old.given + 1 < 2 ^ 32) (n base top total : ℕ) (number : n ≡ length old.set.arenas + 1)
+    (base_is : base ≡ r.base) (top_is : top ≡ max old.most (old.given + 1 - old.back)) (total_is : total ≡ total_at base) (rule : CameAlone n (total_at r.base) old.set set1) (arenas : set1.arenas ≡ old.set.arenas ++ Some (first_arena r) ∷ [])
+    (regions : Inserted (region_extent r) (regions_of old.set.arenas) (regions_of set1.arenas)) (loans : loans_of set1.arenas ≡ loans_of old.set.arenas) (pools : pools_of set1.arenas ≡ pools_of old.set.arenas) (sound : IsSet set1)
+    (marks : m.sites ≡ old.marks.sites ++ record { arena = n; base = base } ∷ []) where
+  abbrev mid : State
+  mid = record old { set = set1; marks = m; given = old.given + 1; most = top }
+
+  number_is : n ≡ old.given + 1
+  number_is = number ∙ ap (λ n. n + 1) (sym k.numbered)
+
+  lines_are : lines_of set1.arenas ≡ lines_of old.set.arenas
+  lines_are = ap (map line_of) pools
+
+  none_usable : usable_of old.set ≡ []
+  none_usable = ap (lines_of_arenas old.set.arenas) none
+
+  layout_is : layout_of (tables_of mid) ≡ granted (layout_of (tables_of old)) (total_at r.base)
+  layout_is i = record {
+    usable = (rule.usable ∙ ap (λ n. record { arena = n; total = total_at r.base; free = total_at r.base } ∷ []) number_is) i;
+    dry = rule.dry i;
+    used = used_of (lines_are i) (map spots_of old.classes);
+    full = full_of old.taken (lines_are i);
+    given = old.given + 1;
+    back = old.back;
+    most = top_is i;
+  }
+
+  pub mid_kept : IsKeptState mid
+  mid_kept = record {
+    kept = record {
+      orderly = subst (λ l. AreOrderly l (map spots_of old.classes) old.taken) (sym lines_are) k.kept.orderly;
+      sound = subst IsSound (sym layout_is) (granted_keeps (layout_of (tables_of old)) (total_at r.base) (some_pools r.base).0 (some_pools r.base).1 k.kept.sound none_usable);
+    };
+    sound_set = sound;
+    apart = subst AreApart (sym loans) k.apart;
+    numbered = let l = ap length arenas in let a = length-append old.set.arenas (Some (first_arena r) ∷ []) in let n = k.numbered in omega arith;
+    few = few;
+    out = let i = length_inserted (region_extent r) (regions_of old.set.arenas) (regions_of set1.arenas) regions in let o = k.out in omega arith;
+    lent = k.lent ∙ ap length (sym loans);
+    marked = λ f.
+        let site : Site = record { arena = length old.set.arenas + 1; base = r.base } in
+        let same : record { arena = n; base = base } ≡ site = λ i. record { arena = number i; base = base_is i } in
+        let a = ap (tally f) (marks ∙ ap (λ z. old.marks.sites ++ z ∷ []) same) in let b = tally-append f old.marks.sites (site ∷ []) in let o = k.marked f in
+        let e = ap (λ es. tally f (sites_of es)) arenas in let g = ap (tally f) (sites_more old.set.arenas (first_arena r)) in let h = tally-append f (sites_of old.set.arenas) (site ∷ []) in omega arith;
+    full = λ c. k.full c ∙ ap (tally (full_in c)) (sym lines_are);
+  }
+
+  pub mid_comes : Comes total r old mid
+  mid_comes = subst (λ t. Comes t r old mid) (sym (total_is ∙ ap total_at base_is)) (record {
+    layout = layout_is;
+    places = ap (λ l. map (place_in l) (range_with_len 0 old.taken)) lines_are;
+    loans = loans;
+    regions = regions;
+    classes = refl;
+    taken = refl;
+  })
+
+  pub mid_total : total ≡ total_at r.base
+  mid_total = total_is ∙ ap total_at base_is
+
+-- ---- and gives the block
+
+module _ (l : Layout) (c total : ℕ) (pools : pools_of_class l c ≡ []) (usable : l.usable ≡ []) where
+  same_place : place (granted l total) c NotAsked ≡ place l c (Granted total)
+  same_place =
+      ap (λ ps. place_by (granted l total) c NotAsked ps (new_arena l total ∷ [])) pools ∙ sym (ap (λ ps. place_by l c (Granted total) ps l.usable) pools ∙ ap (place_by l c (Granted total) []) usable)
+
+  asks : class_asks l c ≡ true
+  asks = ap (λ ps. is_empty ps && is_empty l.usable) pools ∙ ap (λ us. true && is_empty us) usable
+
+pub no_pools_listed : (s : State) (c : ℕ) → IsKept (tables_of s) → c < 32 → (class_at s c).spots ≡ [] → pools_of_class (layout_of (tables_of s)) c ≡ []
+no_pools_listed s c kept small none =
+    let at = lists_at s c kept small in let long = length-map s.classes spots_of in
+    get_or-map (map (used_at (lines_of s.set.arenas))) (map spots_of s.classes) c [] [] (omega arith) ∙ ap (map (used_at (lines_of s.set.arenas))) (at.1 ∙ none)
+
+pub granted_serves : (old came new : State) (c : ℕ) (total : ℕ) (r : RegionView) (piece : PieceView) → c < 32 → IsKeptState old → (class_at old c).spots ≡ [] → old.set.usable ≡ [] → total ≡ total_at r.base →
+    Comes total r old came → Serves c NotAsked (Some piece) (heap_of came) (heap_of new) → Serves c (Granted total) (Some piece) (heap_of old) (heap_of new)
+granted_serves old came new c total r piece small k none dry is m s =
+    let l = layout_of (tables_of old) in
+    let pools : pools_of_class l c ≡ [] = no_pools_listed old c k.kept small none in
+    let usable : l.usable ≡ [] = ap (lines_of_arenas old.set.arenas) dry in
+    let placed : place (layout_of (tables_of came)) c NotAsked ≡ place l c (Granted total) = ap (λ z. place z c NotAsked) m.layout ∙ same_place l c total pools usable in
+    let b = s.got.1 in
+    record {
+      fits = record { asked = sym (asks l c total pools usable); pools = subst (λ n. (63 ≤ n) × (n ≤ 64)) (sym is) (some_pools r.base) };
+      layout = s.layout ∙ ap (λ (p : Placed). p.layout) placed;
+      got = (
+        (λ e. cc),
+        record {
+          pool = b.pool;
+          begins = b.begins;
+          region = b.region;
+          placed = sym (ap (λ (p : Placed). p.pool) placed) ∙ b.placed;
+          is = b.is;
+          was = subst (BeginsIfThere b.pool b.begins) m.places b.was;
+          others = λ j n. b.others j n ∙ ap (λ ps. get_or ps j None) m.places;
+          held = b.held;
+          ground = b.ground;
+          inside = b.inside;
+          maker = b.maker;
+          len = b.len;
+          aligned = b.aligned;
+          lent = subst (λ es. Inserted (piece_extent piece) es (loans_of new.set.arenas)) m.loans b.lent;
+        },
+      );
+    }

@@ -1,0 +1,12 @@
+pub mod Search
+pub mod Arenas
+pub mod Lending
+pub mod Fresh
+pub mod Growing
+pub mod Asking
+pub mod Freeing
+pub mod Returning
+pub mod Ending
+pub mod Promises
+pub mod Viewing
+pub mod Growth

@@ -1,0 +1,247 @@
+-- The last block of a pool is freed, and the pool goes back to its arena.
+use Rattle.std.proofs.Common.{◌≡◌, ◌≢◌, ℕ, ◌+◌, ◌-◌, ◌<◌, ◌≤◌, ◌⊎◌, Bool, true, inl, inr, List, ◌∷◌, map, length, get_or, set, Option, Some, None, refl, sym, ap, subst, ◌∙◌, arith}
+use Rattle.std.proofs.lemmas.Bool.Decides.{eqb_tells, leb_tells}
+use Rattle.std.proofs.lemmas.List.{map-set, length-set, get_or-set_same, get_or-set_other}
+use Rattle.raw_region.specs.Cells.{AllHome}
+use Rattle.raw_region.specs.Region.{RegionView, PieceView}
+use Rattle.extents.specs.Sums.{tally, Has, Removed}
+use Rattle.extents.specs.Extent.{Extent, region_extent, piece_extent, AreApart}
+use Rattle.extents.proofs.Lists.{tally_has, tally_inserted, length_inserted, inserted-map, has_new, has_right}
+use Rattle.layout_model.specs.Sizes.{capacity}
+use Rattle.layout_model.specs.Unplace.{find_arena, without_arena, put_arena, is_last}
+use Rattle.layout_model.proofs.Place.{many}
+use Rattle.pool_core.specs.Pool.{IsEmpty}
+use Rattle.heap_view.specs.Tables.{PoolLine, Tables, with_one_less}
+use Rattle.heap_view.specs.View.{places_of}
+use Rattle.heap_view.specs.Kept.{has_number}
+use Rattle.heap_view.specs.Laws.{IsUnplaced}
+use Rattle.heap_view.specs.Changes as changes
+use Rattle.heap_view.specs.Ground.{Site, in_arena, ArenaHas}
+use Rattle.heap_view.proofs.Pools.{tally_once, number_self}
+use Rattle.heap_view.proofs.Ground.{placed_pool}
+use Rattle.heap_view.proofs.Returned.{dry_arena_gets_pool, usable_arena_is_put, whole_arena_goes_back}
+use Rattle.heap_view.proofs.Counts.{mended_and_gone}
+use Rattle.heap_view.proofs.Members.{pool_is_listed}
+use Rattle.arena_set.specs.declared.pool_id.PoolId.{PoolId}
+use Rattle.arena_set.specs.declared.started.Started.{Started}
+use Rattle.arena_set.specs.Arena.{ArenaView, after_give_pool, started_times}
+use Rattle.arena_set.specs.Set.{SetView, pool_line, pools_of, regions_of, loans_of, usable_of, dry_of, IsSet}
+use Rattle.arena_set.specs.Calls.{CanMend, CanGive, Mends, PoolsLeft, RegionsLeft, kept_after}
+use Rattle.arena_set.specs.Rule.{PoolBack}
+use Rattle.py_heap.specs.Heap.{InPool, RegionsBack}
+use Rattle.py_heap.specs.Kept.{ClassView, State, no_pools, spot, spots_of, line_of, lines_of, sites_of, tables_of, heap_of, class_at, full_in, SameSums, IsKeptState}
+use Rattle.py_heap.specs.Frees.{CanComeBack, ComesBack, TakesBack, SitesAfter, RegionsLess, went}
+use Rattle.py_heap.proofs.Arenas.{line_at, started_there, at_once, arena_at, site_there, sites_cover, sites_same, sites_fewer}
+use Rattle.py_heap.proofs.Lending.{pool_inside, not_full_in, lists_at}
+use Rattle.py_heap.proofs.Freeing.{MendOf, After, after, mend_of, has_same}
+
+pub in_arena_is : (p : ℕ) (a : Site) → ArenaHas p a → in_arena p a ≡ 1
+in_arena_is p a h = elim (leb_tells a.base p) [
+  | inl v ↦ rw v.0 (elim (leb_tells (a.base + 1048576) p) [ inl w ↦ absurd (let low = w.1 in let high = h.1 in omega arith) | inr w ↦ rw w.0 refl ])
+  | inr v ↦ absurd (let low = v.1 in let high = h.0 in omega arith)
+]
+
+-- a pool that went has no place
+gone_place : (old new : Tables) (x : PoolLine) → ((k : ℕ) → tally (has_number k) old.started ≤ 1) → Removed x old.started new.started → get_or (places_of new) x.number None ≡ None
+gone_place old new x once removed = by_place (get_or (places_of new) x.number None) refl where
+  by_place : (o : Option ℕ) → get_or (places_of new) x.number None ≡ o → o ≡ None
+  by_place None e = refl
+  by_place (Some p) e =
+      let z = placed_pool new x.number p e in
+      let sum = tally_inserted (has_number x.number) x new.started old.started removed in let most = once x.number in
+      let mine : has_number x.number x ≡ 1 = rw (number_self x.number) refl in
+      let other : has_number x.number z.0 ≡ 1 = rw (z.1.1) (rw (number_self x.number) refl) in
+      let le = tally_has (has_number x.number) z.0 new.started z.1.0 in absurd (omega arith)
+
+-- the region of an arena that stays or goes
+less_regions : (back : Option RegionView) (a b c : List Extent) → b ≡ a → RegionsLeft back b c → ((r : RegionView) → back ≡ Some r → AllHome r.cells) → RegionsLess back a c
+less_regions None a b c same left home = left ∙ same
+less_regions (Some r) a b c same left home = (subst (λ l. Removed (region_extent r) l c) same left, home r refl)
+
+module _ (old : State) (k : IsKeptState old) (piece : PieceView) (id : PoolId) (can : CanMend old.set id piece)
+    (set1 : SetView) (full empty : Bool) (mends : Mends old.set set1 id piece full empty) (loans : Removed (piece_extent piece) (loans_of old.set.arenas) (loans_of set1.arenas))
+    (apart : AreApart (loans_of set1.arenas)) (regions : regions_of set1.arenas ≡ regions_of old.set.arenas) (same : (usable_of set1 ≡ usable_of old.set) × (dry_of set1 ≡ dry_of old.set)) (sound : IsSet set1)
+    (was_last : empty ≡ true) where
+  abbrev pool : PoolLine
+  pool = line_at id mends.a mends.s
+
+  abbrev mid : State
+  mid = record old { set = set1; pooled = old.pooled - 1 }
+
+  back : MendOf pool full empty old.set set1
+  back = mend_of old.set set1 id piece full empty k.sound_set can mends
+
+  then_is : After set1 id pool
+  then_is = after old.set set1 id piece full empty k.sound_set can mends
+
+  one : pool.live ≡ 1
+  one = (back).now_empty.0 was_last
+
+  pool_here : Has pool (lines_of old.set.arenas)
+  pool_here = started_there old.set id mends.a mends.s mends.started
+
+  small : pool.class < 32
+  small = (k.kept.orderly.pools pool pool_here).small
+
+  half : pool.live ≢ capacity pool.class
+  half e = let o = one in let m = many pool.class small in absurd (omega arith)
+
+  listed : Has (spot id) (class_at old pool.class).spots
+  listed =
+      let o = one in let m = many pool.class small in
+      let l = pool_is_listed (tables_of old) pool k.kept pool_here (omega arith) in
+      subst (Has (spot id)) (sym l.2 ∙ (lists_at old pool.class k.kept small).1) (has_right (spot id) l.0 (spot id ∷ l.1) (inl refl))
+
+  can_give : CanGive set1 id
+  can_give = record {
+    a = (then_is).a;
+    pool = record {
+      at = (then_is).started.at;
+      inside = pool_inside set1 id (then_is).a (then_is).s (then_is).started;
+      taken = let f = (arena_at set1 id.arena (then_is).a sound (then_is).started.at).free id.pool in let s = ap started_times (then_is).started.there in omega arith;
+    };
+    idle = λ s e.
+        let there = (then_is).started.there in let alike : (then_is).s ≡ s = cc in
+        let live = ap (λ (y : PoolLine). y.live) (then_is).is in let o = one in
+        subst (λ (z : Started). IsEmpty z.pool) alike (omega arith);
+  }
+
+  home : Site
+  home = record { arena = id.arena; base = (then_is).a.region.base }
+
+  home_there : Has home (sites_of set1.arenas)
+  unfolding home
+  home_there = site_there set1 id.arena (then_is).a (then_is).started.at
+
+  marked : SameSums old.marks.sites (sites_of set1.arenas)
+  marked f = k.marked f ∙ ap (tally f) (sym (back).sites)
+
+  pub can_come : CanComeBack pool.class id mid
+  unfolding home can_give
+  can_come = record {
+    class = small;
+    listed = listed;
+    give = can_give;
+    marked = record { found = home; there = has_same home (sites_of set1.arenas) old.marks.sites (λ f. sym (marked f)) home_there; has = (omega arith, omega arith) };
+  }
+
+  module _ (new : State) (region : Option RegionView) (b : ComesBack pool.class id region mid new) where
+    -- what was started is as before, without the pool
+    pools_less : PoolsLeft (get_or b.gives.a.pools id.pool None) (pool_line id.arena b.gives.a.region.base id.pool) (pools_of set1.arenas) (pools_of new.set.arenas) →
+        Removed (with_one_less pool) (lines_of set1.arenas) (lines_of new.set.arenas)
+    pools_less left =
+        let arena = at_once set1 id.arena b.gives.a (then_is).a b.gives.at (then_is).started.at in
+        let there : get_or b.gives.a.pools id.pool None ≡ Some (then_is).s = subst (λ (z : ArenaView). get_or z.pools id.pool None ≡ Some (then_is).s) (sym arena) (then_is).started.there in
+        let removed : Removed (pool_line id.arena b.gives.a.region.base id.pool (then_is).s) (pools_of set1.arenas) (pools_of new.set.arenas) =
+        subst (λ o. PoolsLeft o (pool_line id.arena b.gives.a.region.base id.pool) (pools_of set1.arenas) (pools_of new.set.arenas)) there left in
+        let line : line_of (pool_line id.arena b.gives.a.region.base id.pool (then_is).s) ≡ with_one_less pool = ap (λ (z : ArenaView). line_at id z (then_is).s) arena ∙ sym (then_is).is in
+        subst (λ l. Removed l (lines_of set1.arenas) (lines_of new.set.arenas)) line (inserted-map line_of _ (pools_of new.set.arenas) (pools_of set1.arenas) removed)
+
+    gone : Removed pool (lines_of old.set.arenas) (lines_of new.set.arenas)
+    gone = mended_and_gone (tables_of old) pool (lines_of set1.arenas) (lines_of new.set.arenas) k.kept (back).lines (pools_less b.gives.pools)
+
+    freed_last : changes.FreedLast pool b.v.spots (tables_of old) (tables_of new)
+    freed_last = record {
+      last = one;
+      started = gone;
+      left = subst (λ l. Removed (spot id) l b.v.spots) (sym (lists_at old pool.class k.kept small).1) b.spots;
+      lists = ap (map spots_of) b.classes ∙ map-set spots_of old.classes pool.class b.v;
+      taken = b.taken;
+      given = b.given;
+      most = b.most;
+    }
+
+    dry_at : (t : Option ℕ) → get_or (dry_of set1) id.arena None ≡ t → get_or (dry_of old.set) id.arena None ≡ t
+    dry_at t e = ap (λ ds. get_or ds id.arena None) (sym same.1) ∙ e
+
+    unplaced_by : (r : Option RegionView) → PoolBack id.arena r set1 new.set → new.back ≡ old.back + went r → IsUnplaced pool (tables_of old) (tables_of new)
+    unplaced_by None (inl f) back_is = dry_arena_gets_pool pool b.v.spots f.total (tables_of old) (tables_of new) k.kept freed_last (record {
+      was = dry_at (Some f.total) f.was;
+      usable = f.usable ∙ ap (λ us. record { arena = id.arena; total = f.total; free = 1 } ∷ us) same.0;
+      dry = f.dry ∙ ap (λ ds. set ds id.arena None) same.1;
+      back = omega arith;
+    })
+    unplaced_by None (inr p) back_is = usable_arena_is_put pool b.v.spots p.u (tables_of old) (tables_of new) k.kept freed_last (record {
+      was = ap (find_arena id.arena) (sym same.0) ∙ p.was;
+      stays = subst (λ us. (p.u.free + 1 ≢ p.u.total) ⊎ (is_last id.arena us ≡ true)) same.0 p.stays;
+      usable = p.usable ∙ ap (λ us. put_arena (record p.u { free = p.u.free + 1 }) (without_arena id.arena us)) same.0;
+      dry = p.dry ∙ same.1;
+      back = omega arith;
+    })
+    unplaced_by (Some r) w back_is = whole_arena_goes_back pool b.v.spots w.u (tables_of old) (tables_of new) k.kept freed_last (record {
+      was = ap (find_arena id.arena) (sym same.0) ∙ w.was;
+      all = w.all;
+      other = ap (is_last id.arena) (sym same.0) ∙ w.other;
+      usable = w.usable ∙ ap (without_arena id.arena) same.0;
+      dry = w.dry ∙ same.1;
+      back = back_is;
+    })
+
+    unplaced : IsUnplaced pool (tables_of old) (tables_of new)
+    unplaced = unplaced_by region b.rule b.back_is
+
+    -- ---- the sites
+
+    sites_by : (r : Option RegionView) → SitesAfter r old.marks.sites new.marks.sites → new.set.arenas ≡ set set1.arenas (id.arena - 1) (kept_after b.gives.a id.pool r) → ((q : RegionView) → r ≡ Some q → q ≡ b.gives.a.region) →
+        SameSums new.marks.sites (sites_of new.set.arenas)
+    sites_by None s e is f =
+        ap (tally f) s ∙ marked f ∙ ap (tally f) (sym (sites_same set1.arenas id.arena b.gives.a (after_give_pool b.gives.a id.pool) b.gives.at.some b.gives.at.there refl)) ∙ ap (λ l. tally f (sites_of l)) (sym e)
+    sites_by (Some r) s e is f =
+        let base : r.base ≡ b.gives.a.region.base = ap (λ (q : RegionView). q.base) (is r refl) in
+        let mine : Site = record { arena = id.arena; base = b.gives.a.region.base } in
+        let mine_there : Has mine (sites_of set1.arenas) = site_there set1 id.arena b.gives.a b.gives.at in
+        let mine_has : ArenaHas r.base mine = (omega arith, omega arith) in
+        let found_there : Has s.found (sites_of set1.arenas) = has_same s.found old.marks.sites (sites_of set1.arenas) marked (has_new s.found new.marks.sites old.marks.sites s.removed) in
+        let most : tally (in_arena r.base) (sites_of set1.arenas) ≤ 1 = let c = sites_cover set1 r.base sound in let a = sound.apart r.base in omega arith in
+        let c1 = in_arena_is r.base s.found s.has in let c2 = in_arena_is r.base mine mine_has in
+        let alike : s.found ≡ mine = tally_once (in_arena r.base) (sites_of set1.arenas) s.found mine most found_there mine_there (omega arith) (omega arith) in
+        let a = tally_inserted f s.found new.marks.sites old.marks.sites s.removed in
+        let d = tally_inserted f mine (sites_of (set set1.arenas (id.arena - 1) None)) (sites_of set1.arenas) (sites_fewer set1.arenas id.arena b.gives.a b.gives.at.some b.gives.at.there) in
+        let m = marked f in let g = ap f alike in let h = ap (λ l. tally f (sites_of l)) e in omega arith
+
+    out_by : (r : Option RegionView) → RegionsLeft r (regions_of set1.arenas) (regions_of new.set.arenas) → new.back ≡ old.back + went r → length (regions_of new.set.arenas) + new.back ≡ old.given
+    out_by None left is = let e = ap length left in let r = ap length regions in let o = k.out in omega arith
+    out_by (Some r) left is = let e = length_inserted (region_extent r) (regions_of new.set.arenas) (regions_of set1.arenas) left in let s = ap length regions in let o = k.out in omega arith
+
+    count_is : length new.set.arenas ≡ length old.set.arenas
+    count_is = ap length b.gives.arenas ∙ length-set set1.arenas (id.arena - 1) _ ∙ (back).count
+
+    full_is : (d : ℕ) → (class_at new d).full ≡ (class_at old d).full
+    full_is d = ap (λ cs. (get_or cs d no_pools).full) b.classes ∙ elim (eqb_tells d pool.class) [
+      | inl w ↦ let at : get_or (set old.classes pool.class b.v) d no_pools ≡ b.v = ap (λ j. get_or (set old.classes pool.class b.v) j no_pools) w.1 ∙ get_or-set_same old.classes pool.class b.v no_pools (lists_at old pool.class k.kept small).0 in
+          ap (λ (z : ClassView). z.full) at ∙ b.full ∙ ap (λ j. (class_at old j).full) (sym w.1)
+      | inr w ↦ ap (λ (z : ClassView). z.full) (get_or-set_other old.classes pool.class d b.v no_pools w.1)
+    ]
+
+    pub returned_kept : IsKeptState new
+    returned_kept = record {
+      kept = (unplaced).kept;
+      sound_set = b.set;
+      apart = subst AreApart (sym b.loans) apart;
+      numbered = b.given ∙ k.numbered ∙ sym count_is;
+      few = let e = b.given in let f = k.few in omega arith;
+      out = out_by region b.gives.regions b.back_is ∙ sym b.given;
+      lent = let p = b.pooled in let l = k.lent in let i = length_inserted (piece_extent piece) (loans_of set1.arenas) (loans_of old.set.arenas) loans in let e = ap length b.loans in omega arith;
+      marked = sites_by region b.sites b.gives.arenas (λ q e. (b.gives.region q e).0);
+      full = λ d. let t = tally_inserted (full_in d) pool (lines_of new.set.arenas) (lines_of old.set.arenas) gone in let z = not_full_in d pool half in let o = k.full d in let f = full_is d in omega arith;
+    }
+
+    back_by : (r : Option RegionView) → RegionsLeft r (regions_of set1.arenas) (regions_of new.set.arenas) → new.back ≡ old.back + went r → RegionsBack (heap_of old) (heap_of new)
+    back_by None left is = inl (omega arith, left ∙ regions)
+    back_by (Some r) left is = inr (is, (region_extent r, subst (λ l. Removed (region_extent r) l (regions_of new.set.arenas)) regions left))
+
+    pub returned_back : InPool (piece_extent piece) pool.place → TakesBack piece region (heap_of old) (heap_of new)
+    returned_back lies = record {
+      freed = record {
+        pool = pool.number;
+        begins = pool.place;
+        was = (unplaced).place;
+        inside = lies;
+        layout = (unplaced).layout;
+        is = inl (gone_place (tables_of old) (tables_of new) pool k.kept.orderly.numbers gone);
+        others = (unplaced).others;
+        regions = back_by region b.gives.regions b.back_is;
+        back = subst (λ l. Removed (piece_extent piece) (loans_of old.set.arenas) l) (sym b.loans) loans;
+      };
+      regions = less_regions region (regions_of old.set.arenas) (regions_of set1.arenas) (regions_of new.set.arenas) regions b.gives.regions (λ r e. (b.gives.region r e).1);
+    }

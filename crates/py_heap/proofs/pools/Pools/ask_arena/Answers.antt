@@ -1,0 +1,39 @@
+use Rattle.std.proofs.Common.{◌+◌, Some, Err, sym, ap, subst, ◌∙◌, refl}
+use Rattle.extents.specs.Sums.{Inserted}
+use Rattle.extents.specs.Extent.{region_extent}
+use Rattle.extents.proofs.Addresses.{meets_part}
+use Rattle.raw_region.specs.Region.{RegionView}
+use Rattle.sources.specs.Source.{refusals}
+use Rattle.arena_set.specs.Set.{regions_of}
+use Rattle.py_heap.specs.Kept.{heap_of}
+use Rattle.py_heap.specs.State.{state_of}
+use Rattle.py_heap.proofs.Growing.{granted_serves}
+use Rattle.py_heap.proofs.Asking.{served_granted, served_refused, refused_serves, failed_asked}
+use Rattle.py_heap.proofs.pools.Pools.ask_arena.Goals as goal
+
+pub add_arena-total-requires-clause-come : goal.add_arena-total-requires-clause-come
+add_arena-total-requires-clause-come g c = record {
+  none = c.requires.dry;
+  arena = c.in-Ok.ensures.arena;
+  home = c.in-Ok.ensures.granted.home;
+  apart = meets_part (region_extent c.in-Ok.region) (regions_of c.args.self.now.set.arenas) (g.A.ArenaSource.seen c.args.arenas.now).out c.requires.held c.in-Ok.ensures.granted.apart;
+  few = c.requires.few;
+}
+
+pub returns-in-Ok-clause-served : goal.returns-in-Ok-clause-served
+returns-in-Ok-clause-served g c =
+    let s = state_of c.args.self.now in let q = c.requires in let a = c.add_arena-total in let l = c.lend_new-piece in let e = c.in-Ok.ensures in let r = region_extent c.in-Ok.region in
+    let serves = granted_serves s (state_of a.new.self) (state_of l.new.self) c.args.class a.result c.in-Ok.region l.result q.class q.kept q.none q.dry a.ensures.total a.ensures.comes l.ensures.serves in
+    served_granted (heap_of s) (heap_of (state_of l.new.self)) (g.A.ArenaSource.seen c.args.arenas.now) (g.A.ArenaSource.seen c.ask.new.self) q.held e.asked e.plan e.window e.shape c.args.class a.result (Some l.result) r serves (e.arena.len, a.ensures.total, e.granted.inside, e.granted.apart) e.refused (λ planned. let wrong = e.planned planned in cc)
+    (subst (λ rs. Inserted r (regions_of c.args.self.now.set.arenas) rs) (sym l.ensures.regions) a.ensures.comes.regions) e.granted.added
+
+pub returns-in-Err-Refused-clause-served : goal.returns-in-Err-Refused-clause-served
+returns-in-Err-Refused-clause-served g c =
+    let s = state_of c.args.self.now in let q = c.requires in let e = c.in-Err-Refused.ensures in
+    served_refused (heap_of s) (heap_of s) (g.A.ArenaSource.seen c.args.arenas.now) (g.A.ArenaSource.seen c.ask.new.self) q.held e.asked e.plan e.window e.shape c.args.class
+    (refused_serves s c.args.class q.kept q.class q.none q.dry) refl (e.refused ∙ ap (λ f. (g.A.ArenaSource.seen c.args.arenas.now).refused + refusals {T = RegionView} (Err f)) c.in-Err-Refused.field-0-is) e.none
+
+pub returns-clause-failed : goal.returns-clause-failed
+returns-clause-failed g c =
+    let s = state_of c.args.self.now in let q = c.requires in let e = c.in-Err-OutOfMemory.ensures in
+    failed_asked (heap_of s) (heap_of s) (g.A.ArenaSource.seen c.args.arenas.now) (g.A.ArenaSource.seen c.ask.new.self) q.held e.asked e.plan e.window e.shape refl (e.refused ∙ ap (λ f. (g.A.ArenaSource.seen c.args.arenas.now).refused + refusals {T = RegionView} (Err f)) c.in-Err-OutOfMemory.field-0-is) e.none

@@ -1,0 +1,431 @@
+//! What a heap keeps, and the steps of its calls.
+//!
+//! Each step that can fail comes before the arena source is asked, and each change after it.
+ghost use Rattle.std.specs.Prelude.{◌≡◌, ℕ, ◌+◌, ◌^◌, ◌<◌, ◌≤◌, [], length, Some, None, replicate, ◌↔◌, IsTrue, IfOk, OnOk, OnErr, IfSome, IfNone};
+ghost use Rattle.mem_base.specs.declared.history.Grant.TheVariants.{NotAsked};
+ghost use Rattle.extents.specs.Sums.{tally, AllIn, Has};
+ghost use Rattle.extents.specs.Extent.{covers, piece_extent};
+ghost use Rattle.pool_core.specs.Pool.{new_pool};
+ghost use Rattle.sources.specs.Holder.{AskedNothing, Traded};
+ghost use Rattle.heap_view.specs.Ground.{slot_at, total_at};
+ghost use Rattle.arena_set.specs.Set.{loans_of, regions_of, IsSet};
+ghost use Rattle.arena_set.specs.Calls.{AllIdle, CanMend, IsFirst};
+ghost use Rattle.py_heap.specs.Heap.{empty_heap, Serves};
+ghost use Rattle.py_heap.specs.Frees.{CanComeBack, ComesBack, IsInPool, TakesBack};
+ghost use Rattle.py_heap.specs.Kept.{class_at, heap_of, no_pools, IsKeptState};
+ghost use Rattle.py_heap.specs.Steps.{CanCome, Comes, HasRoomFor, HasRoomForArena, IsFailed, IsServed, OnlyRoom};
+
+use crate::HeapGot;
+use crate::classes::ClassPools;
+use crate::counted::{end_one, first_usable, give_pool, take_pool};
+use crate::marks::{Mark, Marks};
+use arena_set::{ArenaSet, Lent, PoolId};
+use mem_base::{Counts, Grant};
+use pool_core::PlainPool;
+use raw_region::{Piece, Region};
+use sources::{ArenaSource, AskError};
+use std::alloc::{AllocError, Global};
+
+const POOL_BYTES: u64 = 16384;
+
+// How many classes of sizes there are.
+pub(crate) const CLASSES: usize = 32;
+
+// What a heap keeps.
+pub(crate) struct Pools {
+    pub(crate) alloc: Global,
+    pub(crate) set: ArenaSet,
+    // By class.
+    pub(crate) classes: Vec<ClassPools>,
+    marks: Marks,
+    // How many pools were taken.
+    taken: u64,
+    // How many arenas were granted, given back, and out at most.
+    given: u64,
+    back: u64,
+    most: u64,
+    // How many blocks are lent.
+    pub(crate) pooled: u64,
+}
+
+// How many pools an arena has that begins there.
+fn pool_count(base: u64) -> u8
+    ensures { result ≡ total_at base }
+{
+    if base % POOL_BYTES == 0 { 64 } else { 63 }
+}
+
+// Which pool of the arena that begins at the base has the address.
+fn pool_number(base: u64, place: u64) -> u8
+    requires { IsInPool base place }
+    ensures { result ≡ slot_at base place }
+{
+    let first = (POOL_BYTES - base % POOL_BYTES) % POOL_BYTES;
+    ((place - base - first) / POOL_BYTES) as u8
+}
+
+// Classes without pools.
+fn no_classes(alloc: Global) -> Result<Vec<ClassPools>, AllocError>
+    ensures { IfOk result (λ v. v.items ≡ replicate 32 no_pools) }
+{
+    let mut classes = Vec::with_capacity(alloc, CLASSES)?;
+    for _class in 0..CLASSES {
+        classes.push(ClassPools::new(alloc))?;
+    }
+    Ok(classes)
+}
+
+// Gives all regions of a set back of which no pool is taken.
+fn give_all<A: ArenaSource>(mut set: ArenaSet, arenas: &mut A)
+    requires idle { AllIdle set }
+    requires sound { IsSet set }
+    requires held { AllIn (regions_of set.arenas) (A.seen arenas.old).out }
+    ensures traded { Traded (regions_of set.arenas) [] (A.seen arenas.old) (A.seen arenas.new) }
+    ensures nothing { AskedNothing (A.seen arenas.old) (A.seen arenas.new) }
+{
+    while let Some(region) = end_one(&mut set) {
+        arenas.give(region);
+    }
+    set.end();
+}
+
+impl Pools {
+    ghost use Rattle.py_heap.specs.State.{state_of};
+
+    /// No pools. The error is that there was no memory.
+    pub(crate) fn new(alloc: Global) -> Result<Pools, AllocError>
+        ensures { IfOk result (λ p. IsKeptState (state_of p) × (heap_of (state_of p) ≡ empty_heap)) }
+    {
+        let classes = no_classes(alloc)?;
+        Ok(Pools {
+            alloc,
+            set: ArenaSet::new(alloc)?,
+            classes,
+            marks: Marks::new(alloc),
+            taken: 0,
+            given: 0,
+            back: 0,
+            most: 0,
+            pooled: 0,
+        })
+    }
+
+    // A block of the first pool of the class. `None` says that no pool of it has a free block.
+    fn lend_first(&mut self, class: u8) -> Option<Piece>
+        requires class { class < 32 }
+        requires kept { IsKeptState (state_of self.old) }
+        ensures none { IfNone result ((self.new ≡ self.old) × ((class_at (state_of self.old) class).spots ≡ [])) }
+        ensures some { IfSome result (λ piece. IsKeptState (state_of self.new) × Serves class NotAsked (Some piece) (heap_of (state_of self.old)) (heap_of (state_of self.new)) × (regions_of self.new.set.arenas ≡ regions_of self.old.set.arenas)) }
+    {
+        let pool = self.classes[class as usize].first()?;
+        let Lent { piece, now_full } = self.set.lend(pool);
+        self.pooled += 1;
+        if now_full {
+            self.classes[class as usize].fill_first();
+        }
+        Some(piece)
+    }
+
+    // The first block of a new pool of the first usable arena.
+    fn lend_new(&mut self, class: u8, plain: PlainPool) -> Piece
+        requires class { class < 32 }
+        requires kept { IsKeptState (state_of self.old) }
+        requires none { (class_at (state_of self.old) class).spots ≡ [] }
+        requires first { IsFirst self.old.set plain.arena }
+        requires plain { plain ≡ new_pool plain.arena class }
+        requires room { HasRoomFor class (state_of self.old) }
+        requires count { self.old.taken < 2 ^ 63 }
+        ensures kept { IsKeptState (state_of self.new) }
+        ensures serves { Serves class NotAsked (Some result) (heap_of (state_of self.old)) (heap_of (state_of self.new)) }
+        ensures regions { regions_of self.new.set.arenas ≡ regions_of self.old.set.arenas }
+    {
+        let pool = take_pool(&mut self.set);
+        self.set.start(pool, plain, self.taken);
+        self.taken += 1;
+        let Lent { piece, now_full: _ } = self.set.lend(pool);
+        self.pooled += 1;
+        self.classes[class as usize].put_first(pool);
+        piece
+    }
+
+    // Room for one more pool of the class.
+    fn reserve(&mut self, class: u8) -> Result<(), AllocError>
+        requires class { class < 32 }
+        requires kept { IsKeptState (state_of self.old) }
+        ensures same { OnlyRoom (state_of self.old) (state_of self.new) }
+        ensures room { OnOk result (HasRoomFor class (state_of self.new)) }
+        ensures set { self.new.set ≡ self.old.set }
+    {
+        self.classes[class as usize].reserve_one()
+    }
+
+    // Room for one more arena.
+    fn reserve_arena(&mut self) -> Result<(), AllocError>
+        requires few { self.old.given + 1 < 2 ^ 32 }
+        requires kept { IsKeptState (state_of self.old) }
+        ensures same { OnlyRoom (state_of self.old) (state_of self.new) }
+        ensures room { OnOk result (HasRoomForArena (state_of self.new)) }
+        ensures classes { self.new.classes ≡ self.old.classes }
+    {
+        self.set.reserve_one()?;
+        self.marks.reserve_one()
+    }
+
+    // One more arena, and how many pools it has.
+    fn add_arena(&mut self, region: Region) -> u8
+        requires kept { IsKeptState (state_of self.old) }
+        requires room { HasRoomForArena (state_of self.old) }
+        requires come { CanCome region (state_of self.old) }
+        ensures kept { IsKeptState (state_of self.new) }
+        ensures comes { Comes result region (state_of self.old) (state_of self.new) }
+        ensures total { result ≡ total_at region.base }
+        ensures first { IsFirst self.new.set (self.old.given + 1) }
+    {
+        let base = region.base();
+        let arena = self.set.add(region);
+        self.marks.add(Mark { arena, base });
+        self.given += 1;
+        self.most = self.most.max(self.given - self.back);
+        pool_count(base)
+    }
+
+    // A block of class `class` in a new arena, with the pool that is to have it.
+    fn ask_arena<A: ArenaSource>(
+        &mut self,
+        class: u8,
+        plain: PlainPool,
+        arenas: &mut A,
+    ) -> Result<HeapGot, AllocError>
+        requires class { class < 32 }
+        requires kept { IsKeptState (state_of self.old) }
+        requires none { (class_at (state_of self.old) class).spots ≡ [] }
+        requires dry { self.old.set.usable ≡ [] }
+        requires room { HasRoomFor class (state_of self.old) }
+        requires arena { HasRoomForArena (state_of self.old) }
+        requires few { self.old.given + 1 < 2 ^ 32 }
+        requires count { self.old.taken < 2 ^ 63 }
+        requires plain { plain ≡ new_pool (self.old.given + 1) class }
+        requires asked { (A.seen arenas.old).asked < 2 ^ 63 }
+        requires held { AllIn (regions_of self.old.set.arenas) (A.seen arenas.old).out }
+        ensures kept { IsKeptState (state_of self.new) }
+        ensures served { IfOk result (λ got. IsServed class got.grant got.piece (heap_of (state_of self.old)) (heap_of (state_of self.new)) (A.seen arenas.old) (A.seen arenas.new)) }
+        ensures failed { OnErr result (IsFailed (heap_of (state_of self.old)) (heap_of (state_of self.new)) (A.seen arenas.old) (A.seen arenas.new)) }
+    {
+        match arenas.ask() {
+            Ok(region) => {
+                let total = self.add_arena(region);
+                let piece = self.lend_new(class, plain);
+                Ok(HeapGot {
+                    piece: Some(piece),
+                    grant: Grant::Granted(total),
+                })
+            }
+            Err(AskError::Refused) => Ok(HeapGot {
+                piece: None,
+                grant: Grant::Refused,
+            }),
+            Err(AskError::OutOfMemory) => Err(AllocError),
+        }
+    }
+
+    // A block of class `class` in a new arena.
+    fn alloc_in_new<A: ArenaSource>(
+        &mut self,
+        class: u8,
+        arenas: &mut A,
+    ) -> Result<HeapGot, AllocError>
+        requires class { class < 32 }
+        requires kept { IsKeptState (state_of self.old) }
+        requires none { (class_at (state_of self.old) class).spots ≡ [] }
+        requires dry { self.old.set.usable ≡ [] }
+        requires room { HasRoomFor class (state_of self.old) }
+        requires few { self.old.given + 1 < 2 ^ 32 }
+        requires count { self.old.taken < 2 ^ 63 }
+        requires asked { (A.seen arenas.old).asked < 2 ^ 63 }
+        requires held { AllIn (regions_of self.old.set.arenas) (A.seen arenas.old).out }
+        ensures kept { IsKeptState (state_of self.new) }
+        ensures served { IfOk result (λ got. IsServed class got.grant got.piece (heap_of (state_of self.old)) (heap_of (state_of self.new)) (A.seen arenas.old) (A.seen arenas.new)) }
+        ensures failed { OnErr result (IsFailed (heap_of (state_of self.old)) (heap_of (state_of self.new)) (A.seen arenas.old) (A.seen arenas.new)) }
+    {
+        let plain = PlainPool::new(self.alloc, self.given as u32 + 1, class)?;
+        self.reserve_arena()?;
+        self.ask_arena(class, plain, arenas)
+    }
+
+    // A block of class `class` in a new pool of the usable arena with that number.
+    fn alloc_in_usable(&mut self, class: u8, arena: u32) -> Result<Piece, AllocError>
+        requires class { class < 32 }
+        requires kept { IsKeptState (state_of self.old) }
+        requires none { (class_at (state_of self.old) class).spots ≡ [] }
+        requires first { IsFirst self.old.set arena }
+        requires room { HasRoomFor class (state_of self.old) }
+        requires count { self.old.taken < 2 ^ 63 }
+        ensures kept { IsKeptState (state_of self.new) }
+        ensures serves { IfOk result (λ piece. Serves class NotAsked (Some piece) (heap_of (state_of self.old)) (heap_of (state_of self.new))) }
+        ensures regions { OnOk result (regions_of self.new.set.arenas ≡ regions_of self.old.set.arenas) }
+        ensures failed { OnErr result (self.new ≡ self.old) }
+    {
+        let plain = PlainPool::new(self.alloc, arena, class)?;
+        Ok(self.lend_new(class, plain))
+    }
+
+    // A block of class `class`, of which no pool has a free block.
+    fn alloc_new<A: ArenaSource>(
+        &mut self,
+        class: u8,
+        arenas: &mut A,
+    ) -> Result<HeapGot, AllocError>
+        requires class { class < 32 }
+        requires kept { IsKeptState (state_of self.old) }
+        requires none { (class_at (state_of self.old) class).spots ≡ [] }
+        requires few { self.old.given + 1 < 2 ^ 32 }
+        requires count { self.old.taken < 2 ^ 63 }
+        requires asked { (A.seen arenas.old).asked < 2 ^ 63 }
+        requires held { AllIn (regions_of self.old.set.arenas) (A.seen arenas.old).out }
+        ensures kept { IsKeptState (state_of self.new) }
+        ensures served { IfOk result (λ got. IsServed class got.grant got.piece (heap_of (state_of self.old)) (heap_of (state_of self.new)) (A.seen arenas.old) (A.seen arenas.new)) }
+        ensures failed { OnErr result (IsFailed (heap_of (state_of self.old)) (heap_of (state_of self.new)) (A.seen arenas.old) (A.seen arenas.new)) }
+    {
+        self.reserve(class)?;
+        match first_usable(&self.set) {
+            Some(arena) => {
+                let piece = self.alloc_in_usable(class, arena)?;
+                Ok(HeapGot {
+                    piece: Some(piece),
+                    grant: Grant::NotAsked,
+                })
+            }
+            None => self.alloc_in_new(class, arenas),
+        }
+    }
+
+    /// A block of class `class`. The error is that there was no memory.
+    pub(crate) fn alloc<A: ArenaSource>(
+        &mut self,
+        class: u8,
+        arenas: &mut A,
+    ) -> Result<HeapGot, AllocError>
+        requires class { class < 32 }
+        requires kept { IsKeptState (state_of self.old) }
+        requires few { self.old.given + 1 < 2 ^ 32 }
+        requires count { self.old.taken < 2 ^ 63 }
+        requires asked { (A.seen arenas.old).asked < 2 ^ 63 }
+        requires held { AllIn (regions_of self.old.set.arenas) (A.seen arenas.old).out }
+        ensures kept { IsKeptState (state_of self.new) }
+        ensures served { IfOk result (λ got. IsServed class got.grant got.piece (heap_of (state_of self.old)) (heap_of (state_of self.new)) (A.seen arenas.old) (A.seen arenas.new)) }
+        ensures failed { OnErr result (IsFailed (heap_of (state_of self.old)) (heap_of (state_of self.new)) (A.seen arenas.old) (A.seen arenas.new)) }
+    {
+        match self.lend_first(class) {
+            Some(piece) => Ok(HeapGot {
+                piece: Some(piece),
+                grant: Grant::NotAsked,
+            }),
+            None => self.alloc_new(class, arenas),
+        }
+    }
+
+    // The pool of a block.
+    fn pool_of(&self, piece: &Piece) -> PoolId
+        requires kept { IsKeptState (state_of self.now) }
+        requires loan { Has (piece_extent piece.now) (loans_of self.now.set.arenas) }
+        ensures { CanMend self.now.set result piece.now }
+    {
+        let place = piece.place();
+        match self.marks.find(place) {
+            Some(mark) => PoolId {
+                arena: mark.arena,
+                pool: pool_number(mark.base, place),
+            },
+            None => unreachable!(),
+        }
+    }
+
+    // A pool without a block in use goes back to its arena. The answer is the arena's region, where
+    // the arena goes.
+    fn give_back(&mut self, class: u8, pool: PoolId) -> Option<Region>
+        requires come { CanComeBack class pool (state_of self.old) }
+        requires count { self.old.back + 1 < 2 ^ 64 }
+        requires class { class < length self.old.classes.items }
+        ensures { ComesBack class pool result (state_of self.old) (state_of self.new) }
+    {
+        self.classes[class as usize].remove(pool);
+        match give_pool(&mut self.set, pool) {
+            Some(region) => {
+                self.marks.remove(region.base());
+                self.back += 1;
+                Some(region)
+            }
+            None => None,
+        }
+    }
+
+    /// Takes a block back. The answer is the region of its arena, where the arena goes.
+    pub(crate) fn free(&mut self, piece: Piece) -> Option<Region>
+        requires kept { IsKeptState (state_of self.old) }
+        requires loan { Has (piece_extent piece) (loans_of self.old.set.arenas) }
+        ensures kept { IsKeptState (state_of self.new) }
+        ensures back { TakesBack piece result (heap_of (state_of self.old)) (heap_of (state_of self.new)) }
+    {
+        let pool = self.pool_of(&piece);
+        let class = self.set.class(pool);
+        let gave = self.set.mend(pool, piece);
+        self.pooled -= 1;
+        if gave.was_full {
+            self.classes[class as usize].reopen(pool);
+            return None;
+        }
+        if gave.now_empty {
+            return self.give_back(class, pool);
+        }
+        None
+    }
+
+    /// Whether some arena has the address.
+    pub(crate) fn owns(&self, place: u64) -> bool
+        requires { IsKeptState (state_of self.now) }
+        ensures { IsTrue result ↔ (tally (covers place) (regions_of self.now.set.arenas) ≡ 1) }
+    {
+        match self.marks.find(place) {
+            Some(_) => true,
+            None => false,
+        }
+    }
+
+    /// How many arenas there were and are, and how many blocks are lent.
+    pub(crate) fn counts(&self) -> Counts
+        requires { IsKeptState (state_of self.now) }
+        ensures arenas { (result.given ≡ self.now.given) × (result.back ≡ self.now.back) × (result.most ≡ self.now.most) }
+        ensures out { result.out ≡ length (regions_of self.now.set.arenas) }
+        ensures pooled { result.pooled ≡ length (loans_of self.now.set.arenas) }
+    {
+        Counts {
+            given: self.given,
+            back: self.back,
+            out: self.given - self.back,
+            most: self.most,
+            pooled: self.pooled,
+        }
+    }
+
+    /// Gives all arenas back.
+    pub(crate) fn end<A: ArenaSource>(self, arenas: &mut A)
+        requires kept { IsKeptState (state_of self) }
+        requires none { loans_of self.set.arenas ≡ [] }
+        requires held { AllIn (regions_of self.set.arenas) (A.seen arenas.old).out }
+        ensures traded { Traded (regions_of self.set.arenas) [] (A.seen arenas.old) (A.seen arenas.new) }
+        ensures nothing { AskedNothing (A.seen arenas.old) (A.seen arenas.new) }
+    {
+        let Pools {
+            alloc: _,
+            set,
+            classes: _,
+            marks: _,
+            taken: _,
+            given: _,
+            back: _,
+            most: _,
+            pooled: _,
+        } = self;
+        give_all(set, arenas);
+    }
+}
