@@ -28,6 +28,8 @@ mod counted;
 mod heap;
 mod marks;
 mod pools;
+#[cfg(test)]
+mod tests;
 mod view;
 
 pub use heap::{Heap, HeapGot};
