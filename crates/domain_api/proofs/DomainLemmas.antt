@@ -30,9 +30,9 @@ use Rattle.domain_api.specs.Held.{AllWithin, AreHeld, AreSound, DomainsView, IsL
 -- a small block's place is in just one of the heap's regions
 pub owns_small : (heap : HeapView) (raws : List Extent) (e : Extent) → AreSound heap raws → Has e heap.loans → 1 ≤ e.len → tally (covers e.place) heap.regions ≡ 1
 owns_small heap raws e sound has some =
-    let w = sound.within e has in
+    let w = sound.heap_is.within e has in
     let there : covers e.place w.0 ≡ 1 = covers_in e.place w.0 w.1.2 (omega (arith, some, w.1.3)) in
-    omega (arith, there, tally_has (covers e.place) w.0 heap.regions w.1.0, sound.regions e.place)
+    omega (arith, there, tally_has (covers e.place) w.0 heap.regions w.1.0, sound.heap_is.arenas_apart e.place)
 
 zero_or_one : (n : ℕ) → n ≤ 1 → (n ≡ 0) ⊎ (n ≡ 1)
 zero_or_one zero few = inl refl

@@ -1,23 +1,20 @@
 -- What the calls of the domains do.
 use Rattle.std.specs.Prelude.{◌≡◌, ◌≢◌, ◌⊎◌, ℕ, ◌%◌, Bool, true, false, length, Some, None}
 use Rattle.mem_base.specs.declared.trace.Letter.{Letter}
-use Rattle.mem_base.specs.declared.trace.Letter.TheVariants.{Raw, Mem, Obj}
 use Rattle.mem_base.specs.declared.history.Ask.TheVariants as ask
 use Rattle.mem_base.specs.declared.history.Grant.TheVariants as grant
 use Rattle.mem_base.specs.declared.reply.Fault.TheVariants.{Unlocked}
 use Rattle.mem_base.specs.declared.reply.View.{View}
 use Rattle.block_model.specs.Block.{fresh, new_byte, finding_in}
 use Rattle.layout_model.specs.Asks.{FitsRequest}
-use Rattle.layout_model.specs.Asks.Request.{FromPools, FromRaw}
-use Rattle.layout_model.specs.Asks.{Request}
+use Rattle.layout_model.specs.View.{shape_of}
 use Rattle.layout_model.specs.Sizes.{class_of, need}
-use Rattle.event_model.specs.Effects.{Decision, too_great, lacks_lock, asks, decision, is_unlocked}
+use Rattle.event_model.specs.Effects.{Decision, too_great, lacks_lock, asks, decision, is_unlocked, request}
 use Rattle.raw_region.specs.Region.{PieceView}
 use Rattle.extents.specs.Extent.{piece_extent}
 use Rattle.extents.specs.Sums.{Inserted, Removed}
 use Rattle.debug_guard.specs.Guard.{Guard, guard_extent}
 use Rattle.py_heap.specs.Heap.{Serves, IsFreed as IsFreedOfHeap}
-use Rattle.py_heap.specs.View.{view_of}
 use Rattle.domain_api.specs.Held.{DomainsView}
 use Rattle.domain_api.specs.declared.answers.Asked.{Asked}
 use Rattle.domain_api.specs.declared.answers.Got.{Got}
@@ -31,12 +28,6 @@ abbrev pub decision_of : Chosen → Decision
 decision_of chosen.TooGreat = too_great
 decision_of chosen.LacksLock = lacks_lock
 decision_of chosen.Asks = asks
-
--- what a block of n bytes asks for: with the hooks' bytes, of the pools, or in the raw domain of the raw source
-abbrev pub request : Letter → ℕ → Request
-request Raw n = FromRaw (need n)
-request Mem n = FromPools (need n)
-request Obj n = FromPools (need n)
 
 -- no source was asked
 abbrev pub not_asked : Asked
@@ -95,4 +86,4 @@ IsFreed v locked block old new (frees.Fault kept found) = (kept ≡ block) × (n
 
 -- the heap's shape, and how many blocks are raw regions
 abbrev pub view_of_both : DomainsView → View
-view_of_both d = record (view_of d.heap) { raws = length d.raws }
+view_of_both d = shape_of (length d.heap.loans) (length d.raws) d.heap.layout

@@ -1,12 +1,12 @@
 -- What the domains hold of the sources.
 use Rattle.std.specs.Prelude.{◌≡◌, ◌⊎◌, ℕ, ◌+◌, ◌^◌, ◌<◌, List, length}
 use Rattle.mem_base.specs.declared.reply.Counts.{Counts}
-use Rattle.event_model.specs.Requests.{raw_asks, raw_refusals}
+use Rattle.event_model.specs.Requests.{arena_asks, arena_refusals, raw_asks, raw_refusals}
 use Rattle.extents.specs.Extent.{Extent, Window, AreApart, AreDisjoint, LiesIn}
 use Rattle.extents.specs.Sums.{AllIn, Has}
 use Rattle.sources.specs.Source.{ArenaShape, SourceView}
 use Rattle.sources.specs.Holder.{Answered, AskedNothing, AskedOnce, Traded}
-use Rattle.py_heap.specs.Heap.{HeapView, AreWithin, arena_asks, arena_refusals}
+use Rattle.py_heap.specs.Heap.{HeapView, IsHeap}
 use Rattle.domain_api.specs.declared.answers.Asked.{Asked}
 
 -- the domains: the heap of small blocks, and the raw regions that they hold, each of which is a block
@@ -18,23 +18,25 @@ pub record DomainsView : Type 0 where
 abbrev pub AllWithin : List Extent → Window → Type 0
 AllWithin es w = (e : Extent) → Has e es → LiesIn e w
 
--- what the domains hold is out at the sources, in their windows, which do not meet
-pub record AreHeld (d : DomainsView) (arenas : SourceView ArenaShape) (raws : SourceView ℕ) : Type 0 where
-  pub arenas_out : AllIn d.heap.regions arenas.out
-  pub arenas_in : AllWithin d.heap.regions arenas.window
-  pub raws_out : AllIn d.raws raws.out
-  pub raws_in : AllWithin d.raws raws.window
+-- these arenas and these raw regions are out at the sources, in their windows, which do not meet
+pub record AreOut (held_arenas held_raws : List Extent) (arenas : SourceView ArenaShape) (raws : SourceView ℕ) : Type 0 where
+  pub arenas_out : AllIn held_arenas arenas.out
+  pub arenas_in : AllWithin held_arenas arenas.window
+  pub raws_out : AllIn held_raws raws.out
+  pub raws_in : AllWithin held_raws raws.window
   pub windows : AreDisjoint arenas.window raws.window
+
+-- what the domains hold is out at the sources
+abbrev pub AreHeld : DomainsView → SourceView ArenaShape → SourceView ℕ → Type 0
+AreHeld d arenas raws = AreOut d.heap.regions d.raws arenas raws
 
 -- the extent is a block of one of the two heaps
 abbrev pub IsLoan : Extent → DomainsView → Type 0
 IsLoan e d = Has e d.heap.loans ⊎ Has e d.raws
 
--- what always holds of the two heaps: blocks and regions lie apart, and each small block lies in one of the heap's regions
+-- what always holds of the two heaps, as callers see it
 pub record AreSound (heap : HeapView) (raws : List Extent) : Type 0 where
-  pub loans : AreApart heap.loans
-  pub within : AreWithin heap.loans heap.regions
-  pub regions : AreApart heap.regions
+  pub heap_is : IsHeap heap
   pub raws_apart : AreApart raws
 
 -- few enough arenas were granted and pools taken so far to number one more

@@ -6,7 +6,7 @@ ghost use Rattle.event_model.specs.Requests.{raw_asks, raw_refusals};
 ghost use Rattle.sources.specs.Holder.{Answered, AskedOnce, Traded};
 ghost use Rattle.py_heap.specs.Heap.{empty_heap};
 ghost use Rattle.domain_api.specs.Domains.{IsFreed, IsGivenUp, IsMade, IsTaken, IsTakenRaw, view_of_both};
-ghost use Rattle.domain_api.specs.Held.{AreAnswered, AreAskedNothing, AreAskedOnce, AreHeld, AreTraded, CanAsk, HasCounts, IsLoan, SamePlans};
+ghost use Rattle.domain_api.specs.Held.{AreAnswered, AreAskedNothing, AreAskedOnce, AreHeld, AreSound, AreTraded, CanAsk, HasCounts, IsLoan, SamePlans};
 
 use crate::answers::{Asked, Freed, Got, Made};
 use crate::decide::{Decision, decide, is_unlocked_call};
@@ -26,7 +26,7 @@ pub struct Domains {
 }
 
 impl Model for Domains {
-    ghost use Rattle.domain_api.specs.Held.{DomainsView, AreSound};
+    ghost use Rattle.domain_api.specs.Held.{AreSound, DomainsView};
 
     ghost Value = { DomainsView };
 
@@ -44,7 +44,8 @@ const NOT_ASKED: Asked = Asked {
 impl Domains {
     /// Domains without blocks. The error is that there was no memory.
     pub fn new(alloc: Global) -> Result<Domains, AllocError>
-        ensures { IfOk result (λ d. d ≡ record { heap = empty_heap; raws = [] }) }
+        ensures empty { IfOk result (λ d. d ≡ record { heap = empty_heap; raws = [] }) }
+        ensures sound { IfOk result (λ d. AreSound d.heap d.raws) }
     {
         let raw = RawHeap::new(alloc)?;
         match Heap::new(alloc) {
@@ -78,6 +79,7 @@ impl Domains {
         ensures heap { self.new.heap ≡ self.old.heap }
         ensures held { AreHeld self.new (A.seen arenas.new) (R.seen raws.new) }
         ensures arenas { A.seen arenas.new ≡ A.seen arenas.old }
+        ensures sound { AreSound self.new.heap self.new.raws }
     {
         let RawGot { piece } = self.raw.alloc(n + HOOK_BYTES, raws)?;
         Ok(match piece {
@@ -118,6 +120,7 @@ impl Domains {
         ensures once { OnErr result (AreAskedOnce (A.seen arenas.old) (A.seen arenas.new) (R.seen raws.old) (R.seen raws.new)) }
         ensures traded { AreTraded self.old self.new (A.seen arenas.old) (A.seen arenas.new) (R.seen raws.old) (R.seen raws.new) }
         ensures held { AreHeld self.new (A.seen arenas.new) (R.seen raws.new) }
+        ensures sound { AreSound self.new.heap self.new.raws }
     {
         let HeapGot { piece, grant } = self.heap.alloc(n + HOOK_BYTES, arenas)?;
         match piece {
@@ -154,7 +157,9 @@ impl Domains {
         ensures once { OnErr result (AreAskedOnce (A.seen arenas.old) (A.seen arenas.new) (R.seen raws.old) (R.seen raws.new)) }
         ensures traded { AreTraded self.old self.new (A.seen arenas.old) (A.seen arenas.new) (R.seen raws.old) (R.seen raws.new) }
         ensures held { AreHeld self.new (A.seen arenas.new) (R.seen raws.new) }
+        ensures sound { AreSound self.new.heap self.new.raws }
     {
+        let _inside = &self.heap;
         match decide(letter, n, locked) {
             Decision::TooGreat => Ok(Made {
                 got: Got::Null,
@@ -198,7 +203,9 @@ impl Domains {
         ensures nothing { AreAskedNothing (A.seen arenas.old) (A.seen arenas.new) (R.seen raws.old) (R.seen raws.new) }
         ensures traded { AreTraded self.old self.new (A.seen arenas.old) (A.seen arenas.new) (R.seen raws.old) (R.seen raws.new) }
         ensures held { AreHeld self.new (A.seen arenas.new) (R.seen raws.new) }
+        ensures sound { AreSound self.new.heap self.new.raws }
     {
+        let _inside = &self.heap;
         if is_unlocked_call(letter, locked) {
             return Freed::Fault(old, Fault::Unlocked);
         }
@@ -224,6 +231,7 @@ impl Domains {
         ensures nothing { AreAskedNothing (A.seen arenas.old) (A.seen arenas.new) (R.seen raws.old) (R.seen raws.new) }
         ensures traded { AreTraded self.old self.new (A.seen arenas.old) (A.seen arenas.new) (R.seen raws.old) (R.seen raws.new) }
         ensures held { AreHeld self.new (A.seen arenas.new) (R.seen raws.new) }
+        ensures sound { AreSound self.new.heap self.new.raws }
     {
         // A block has bytes, so its first one tells whose it is.
         let _size = size(&g);

@@ -27,11 +27,11 @@ fell_now : (tracks : List PlainTrack) (s : State) (e : Entry) → s.faulted ≡ 
 unfolding event
 fell_now tracks s e sound fell = by (next_action tracks s e.track) fell
   where
-    by : (o : Option Action) → (event_of tracks s e.track e.raw o).0.faulted ≡ true → is_fault (event_of tracks s e.track e.raw o).1 ≡ true
+    by : (o : Option Action) → (event_of tracks s e.track e.arena e.raw o).0.faulted ≡ true → is_fault (event_of tracks s e.track e.arena e.raw o).1 ≡ true
     by None fell = absurd (true≢false (sym fell ∙ sound))
     by (Some a) fell =
-        let r = effect s e.track a e.raw in
-        chosen_fault tracks e.track r (is_fault r.1) ((effect_keeps s e.track a e.raw).faulted ∙ sound) refl fell
+        let r = effect s e.track a e.arena e.raw in
+        chosen_fault tracks e.track r (is_fault r.1) ((effect_keeps s e.track a e.arena e.raw).faulted ∙ sound) refl fell
 
 ends_from : (tracks : List PlainTrack) (s : State) (es : List Entry) → s.faulted ≡ false → IsLegalFrom tracks s es → (state_after tracks s es).faulted ≡ true → EndsFrom tracks s es
 ends_from tracks s [] sound legal fell = absurd (true≢false (sym fell ∙ sound))

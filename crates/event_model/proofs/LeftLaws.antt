@@ -4,9 +4,10 @@ use Rattle.std.specs.Prelude.{slice_index}
 use Rattle.std.specs.Option.{option_and_then}
 use Rattle.std.proofs.lemmas.Option.{slice_get_within}
 use Rattle.std.proofs.lemmas.List.Sums.{sum_by-cons}
+use Rattle.mem_base.specs.declared.history.Grant.{Grant}
 use Rattle.mem_base.specs.declared.history.Ask.{Ask}
 use Rattle.mem_base.specs.declared.history.Entry.{Entry}
-use Rattle.trace_model.specs.Plain.{Action, acquire, release, malloc, free, poke, peek, refuse, other, PlainTrack}
+use Rattle.trace_model.specs.Plain.{Action, acquire, release, malloc, free, poke, peek, heap, refuse, other, PlainTrack}
 use Rattle.trace_model.specs.Spelling.{action_count}
 use Rattle.event_model.specs.Effects.{State, PlainReply, ok, held, not_held, effect, is_owner}
 use Rattle.event_model.specs.Events.{event, event_of, settled, advanced, is_fault, next_action, may_do, ops_left, left_in}
@@ -27,15 +28,16 @@ unlock_keeps : (s : State) (b : Bool) (owner : Option ℕ) → Keeps s (cond b (
 unlock_keeps s true owner = record { done = refl; faulted = refl }
 unlock_keeps s false owner = record { done = refl; faulted = refl }
 
-pub effect_keeps : (s : State) (t : ℕ) (a : Action) (raw : Ask) → Keeps s (effect s t a raw)
-effect_keeps s t acquire raw = lock_keeps s (is_owner s.owner t) (Some t)
-effect_keeps s t release raw = unlock_keeps s (is_owner s.owner t) None
-effect_keeps s t (malloc v name n) raw = record { done = refl; faulted = refl }
-effect_keeps s t (free v name) raw = record { done = refl; faulted = refl }
-effect_keeps s t (poke name offset new) raw = record { done = refl; faulted = refl }
-effect_keeps s t (peek name offset count) raw = record { done = refl; faulted = refl }
-effect_keeps s t (refuse side k) raw = record { done = refl; faulted = refl }
-effect_keeps s t other raw = record { done = refl; faulted = refl }
+pub effect_keeps : (s : State) (t : ℕ) (a : Action) (arena : Grant) (raw : Ask) → Keeps s (effect s t a arena raw)
+effect_keeps s t acquire arena raw = lock_keeps s (is_owner s.owner t) (Some t)
+effect_keeps s t release arena raw = unlock_keeps s (is_owner s.owner t) None
+effect_keeps s t (malloc v name n) arena raw = record { done = refl; faulted = refl }
+effect_keeps s t (free v name) arena raw = record { done = refl; faulted = refl }
+effect_keeps s t (poke name offset new) arena raw = record { done = refl; faulted = refl }
+effect_keeps s t (peek name offset count) arena raw = record { done = refl; faulted = refl }
+effect_keeps s t heap arena raw = record { done = refl; faulted = refl }
+effect_keeps s t (refuse side k) arena raw = record { done = refl; faulted = refl }
+effect_keeps s t other arena raw = record { done = refl; faulted = refl }
 
 -- ---- as many tracks as there were
 
@@ -53,9 +55,9 @@ event_length : (tracks : List PlainTrack) (s : State) (e : Entry) → length (ev
 unfolding event
 event_length tracks s e = by (next_action tracks s e.track)
   where
-    by : (o : Option Action) → length (event_of tracks s e.track e.raw o).0.done ≡ length s.done
+    by : (o : Option Action) → length (event_of tracks s e.track e.arena e.raw o).0.done ≡ length s.done
     by None = refl
-    by (Some a) = settled_length tracks e.track (effect s e.track a e.raw) ∙ ap length (effect_keeps s e.track a e.raw).done
+    by (Some a) = settled_length tracks e.track (effect s e.track a e.arena e.raw) ∙ ap length (effect_keeps s e.track a e.arena e.raw).done
 
 after_length : (tracks : List PlainTrack) (s : State) (es : List Entry) → length (state_after tracks s es).done ≡ length s.done
 after_length tracks s [] = refl
@@ -96,11 +98,11 @@ abbrev weight : Bool → ℕ
 weight b = cond b 0 1
 
 -- what is left where one operation is done, or a fault comes
-less : (tracks : List PlainTrack) (s : State) (t : ℕ) (a : Action) (raw : Ask) → s.faulted ≡ false → length s.done ≡ length tracks → next_action tracks s t ≡ Some a
-    → left_in tracks (settled tracks t (effect s t a raw)).0 < left_in tracks s
-less tracks s t a raw sound same is =
-    let r = effect s t a raw in
-    let keeps = effect_keeps s t a raw in
+less : (tracks : List PlainTrack) (s : State) (t : ℕ) (a : Action) (arena : Grant) (raw : Ask) → s.faulted ≡ false → length s.done ≡ length tracks → next_action tracks s t ≡ Some a
+    → left_in tracks (settled tracks t (effect s t a arena raw)).0 < left_in tracks s
+less tracks s t a arena raw sound same is =
+    let r = effect s t a arena raw in
+    let keeps = effect_keeps s t a arena raw in
     let there = at_track (slice_get tracks t) (slice_index s.done t) a is in
     let within : t < length s.done = omega (arith, same, slice_get_within tracks t there.0 there.1) in
     let some : slice_index s.done t < length there.0.actions = slice_get_within there.0.actions (slice_index s.done t) a there.2 in
@@ -122,8 +124,8 @@ next_less : (tracks : List PlainTrack) (s : State) (e : Entry) → length s.done
 unfolding event
 next_less tracks s e same next =
     let w = waits s.owner e.track (next_action tracks s e.track) next.ready in
-    let then_is : (event tracks s e).0 ≡ (settled tracks e.track (effect s e.track w.0 e.raw)).0 = ap (λ (o : Option Action). (event_of tracks s e.track e.raw o).0) w.1 in
-    subst (λ (x : State). left_in tracks x < left_in tracks s) (sym then_is) (less tracks s e.track w.0 e.raw next.no_fault same w.1)
+    let then_is : (event tracks s e).0 ≡ (settled tracks e.track (effect s e.track w.0 e.arena e.raw)).0 = ap (λ (o : Option Action). (event_of tracks s e.track e.arena e.raw o).0) w.1 in
+    subst (λ (x : State). left_in tracks x < left_in tracks s) (sym then_is) (less tracks s e.track w.0 e.arena e.raw next.no_fault same w.1)
 
 pub leaves_less : (tracks : List PlainTrack) (es : List Entry) (e : Entry) → IsNext tracks (last_state tracks es) e → left_in tracks (last_state tracks (es ++ e ∷ [])) < left_in tracks (last_state tracks es)
 leaves_less tracks es e next =

@@ -2,14 +2,23 @@
 use Rattle.std.specs.Prelude.{ℕ, ◌-◌, ◌^◌, ℤ, Bool, true, false, not, ◌&&◌, nat_lt, ◌==◌, if◌then◌else◌, List, length, Option, Some, None}
 use Rattle.mem_base.specs.declared.trace.Letter.{Letter}
 use Rattle.mem_base.specs.declared.trace.Letter.TheVariants.{Raw, Mem, Obj}
+use Rattle.mem_base.specs.declared.history.Grant.{Grant}
 use Rattle.mem_base.specs.declared.history.Ask.{Ask}
 use Rattle.mem_base.specs.declared.history.Ask.TheVariants.{NotAsked, Refused, Granted}
 use Rattle.mem_base.specs.declared.reply.Fault.{Fault}
 use Rattle.mem_base.specs.declared.reply.Fault.TheVariants.{Unlocked}
 use Rattle.mem_base.specs.declared.reply.BlockReport.{BlockReport}
-use Rattle.trace_model.specs.Plain.{Name, Action, acquire, release, malloc, free, poke, peek, refuse, other}
-use Rattle.block_model.specs.Block.{Body, new_byte, fresh, finding_in, report_of, reaches, peeked, poked}
-use Rattle.event_model.specs.Blocks.{Blocks, find, hold}
+use Rattle.mem_base.specs.declared.reply.View.{View}
+use Rattle.trace_model.specs.Plain.{Name, Action, acquire, release, malloc, free, poke, peek, heap, refuse, other}
+use Rattle.block_model.specs.Block.{new_byte, fresh, finding_in, report_of, reaches, peeked, poked}
+use Rattle.layout_model.specs.Asks.{Request}
+use Rattle.layout_model.specs.Asks.Request.{FromPools, FromRaw, NoRequest}
+use Rattle.layout_model.specs.Layout.{Layout}
+use Rattle.layout_model.specs.Place.{place}
+use Rattle.layout_model.specs.Sizes.{need, is_small, class_of}
+use Rattle.layout_model.specs.Unplace.{unplace}
+use Rattle.layout_model.specs.View.{shape_of}
+use Rattle.event_model.specs.Blocks.{Home, in_pool, in_raw, Block, Blocks, find, hold, pool_count, raw_count}
 
 -- what an operation answers
 pub data PlainReply : Type 0 where
@@ -21,6 +30,8 @@ pub data PlainReply : Type 0 where
   held : PlainReply
   not_held : PlainReply
   bytes : List ℕ → PlainReply
+  -- the heap's shape
+  shape : View → PlainReply
   -- the fault, and the block that it lies in
   fault : Fault → Option BlockReport → PlainReply
   -- for replies that no operation gives yet
@@ -29,6 +40,8 @@ pub data PlainReply : Type 0 where
 -- all that is held at one moment
 pub record State : Type 0 where
   pub blocks : Blocks
+  -- the pools and arenas of the mem and object domains
+  pub layout : Layout
   -- the track that owns the lock
   pub owner : Option ℕ
   -- for each track how many of its operations are done
@@ -41,10 +54,17 @@ abbrev pub is_owner : Option ℕ → ℕ → Bool
 is_owner None t = false
 is_owner (Some u) t = u == t
 
--- ---- memory: what a name holds after an operation on it, and what the operation answers
+-- ---- memory: an operation on what a name holds
 
-abbrev pub Turn : Type 0
-Turn = Option Body × PlainReply
+-- what the name then holds, the layout, and the answer
+pub record Turn : Type 0 where
+  pub block : Option Block
+  pub layout : Layout
+  pub answer : PlainReply
+
+-- the name holds this, the layout stays, and this is the answer
+abbrev pub turn_to : Option Block → Layout → PlainReply → Turn
+turn_to block l answer = record { block = block; layout = l; answer = answer }
 
 -- the greatest size of a request
 abbrev pub max_size : ℕ
@@ -70,7 +90,7 @@ unlocked = fault Unlocked None
 pub data Decision : Type 0 where
   too_great : Decision
   lacks_lock : Decision
-  -- a source is asked
+  -- a source may be asked
   asks : Decision
 
 -- for n bytes: a size that is too great, the lock, a size that leaves no room for the hooks' bytes
@@ -81,56 +101,108 @@ decision v n locked =
     else if nat_lt max_data n then too_great
     else asks
 
--- a new block of n bytes, where the raw source gave this answer
-abbrev pub decided : Letter → ℕ → Ask → Decision → Turn
-decided v n raw too_great = (None, null)
-decided v n raw lacks_lock = (None, unlocked)
-decided v n NotAsked asks = (None, null)
-decided v n Refused asks = (None, null)
-decided v n Granted asks = (Some (fresh v n new_byte), ok)
+-- what a block of n bytes asks for: with the hooks' bytes, of the pools, or in the raw domain of the raw source
+abbrev pub request : Letter → ℕ → Request
+request Raw n = FromRaw (need n)
+request Mem n = FromPools (need n)
+request Obj n = FromPools (need n)
+
+-- where a new block lies, if there is one, and the layout then
+pub record Housing : Type 0 where
+  pub home : Option Home
+  pub layout : Layout
+
+-- a raw region, where the raw source granted one
+abbrev pub raw_home : Ask → Option Home
+raw_home NotAsked = None
+raw_home Refused = None
+raw_home Granted = Some in_raw
+
+-- the pool that was given, or else a raw region
+abbrev pub pool_home : Option ℕ → Ask → Option Home
+pool_home None raw = raw_home raw
+pool_home (Some k) raw = Some (in_pool k)
+
+-- where a request leads, with these answers of the arena source and of the raw source
+abbrev pub housed : Layout → Request → Grant → Ask → Housing
+housed l (FromPools m) arena raw =
+    if is_small m
+    then record { home = pool_home (place l (class_of m) arena).pool raw; layout = (place l (class_of m) arena).layout }
+    else record { home = raw_home raw; layout = l }
+housed l (FromRaw m) arena raw = record { home = raw_home raw; layout = l }
+housed l NoRequest arena raw = record { home = None; layout = l }
+
+-- a new block of n bytes there, or null where there is no room for it
+abbrev pub new_block : Letter → ℕ → Option Home → Layout → Turn
+new_block v n None l = turn_to None l null
+new_block v n (Some home) l = turn_to (Some (record { body = fresh v n new_byte; home = home })) l ok
+
+-- a new block of n bytes, with these answers of the sources
+abbrev pub decided : Letter → ℕ → Grant → Ask → Layout → Decision → Turn
+decided v n arena raw l too_great = turn_to None l null
+decided v n arena raw l lacks_lock = turn_to None l unlocked
+decided v n arena raw l asks = let h = housed l (request v n) arena raw in new_block v n h.home h.layout
 
 -- malloc of n bytes into a name that holds this
-abbrev pub made : Letter → ℕ → Bool → Ask → Option Body → Turn
-made v n locked raw (Some block) = (Some block, busy)
-made v n locked raw None = decided v n raw (decision v n locked)
+abbrev pub made : Letter → ℕ → Bool → Grant → Ask → Layout → Option Block → Turn
+made v n locked arena raw l (Some block) = turn_to (Some block) l busy
+made v n locked arena raw l None = decided v n arena raw l (decision v n locked)
+
+-- the layout without a block that lies there
+abbrev pub left_by : Layout → Home → Layout
+left_by l (in_pool k) = unplace l k
+left_by l in_raw = l
 
 -- free of this block, where the check of it finds this
-abbrev pub given_up : Body → Option Fault → Turn
-given_up block None = (None, ok)
-given_up block (Some found) = (Some block, fault found (Some (report_of block)))
+abbrev pub given_up : Layout → Block → Option Fault → Turn
+given_up l block None = turn_to None (left_by l block.home) ok
+given_up l block (Some found) = turn_to (Some block) l (fault found (Some (report_of block.body)))
 
 -- free of a name that holds this, by a call that has the lock where it needs it
-abbrev pub checked : Letter → Option Body → Turn
-checked v None = (None, ok)
-checked v (Some block) = given_up block (finding_in v block)
+abbrev pub checked : Letter → Layout → Option Block → Turn
+checked v l None = turn_to None l ok
+checked v l (Some block) = given_up l block (finding_in v block.body)
 
 -- free of a name that holds this
-abbrev pub freed : Letter → Bool → Option Body → Turn
-freed v locked now = if is_unlocked v locked then (now, unlocked) else checked v now
+abbrev pub freed : Letter → Bool → Layout → Option Block → Turn
+freed v locked l now = if is_unlocked v locked then turn_to now l unlocked else checked v l now
 
 -- poke of a name that holds this
-abbrev pub written : ℤ → List ℕ → Option Body → Turn
-written offset new None = (None, absent)
-written offset new (Some block) = if reaches block offset (length new) then (Some (poked block offset new), ok) else (Some block, outside)
+abbrev pub written : ℤ → List ℕ → Layout → Option Block → Turn
+written offset new l None = turn_to None l absent
+written offset new l (Some block) =
+    if reaches block.body offset (length new)
+    then turn_to (Some (record block { body = poked block.body offset new })) l ok
+    else turn_to (Some block) l outside
 
 -- peek of a name that holds this
-abbrev pub read : ℤ → ℕ → Option Body → Turn
-read offset count None = (None, absent)
-read offset count (Some block) = if reaches block offset count then (Some block, bytes (peeked block offset count)) else (Some block, outside)
+abbrev pub read : ℤ → ℕ → Layout → Option Block → Turn
+read offset count l None = turn_to None l absent
+read offset count l (Some block) =
+    if reaches block.body offset count
+    then turn_to (Some block) l (bytes (peeked block.body offset count))
+    else turn_to (Some block) l outside
 
 -- ---- an operation
 
 -- an operation on what a name holds
-abbrev pub on_block : State → Name → (Option Body → Turn) → State × PlainReply
-on_block s name f = let turn = f (find s.blocks name) in (record s { blocks = hold s.blocks name turn.0 }, turn.1)
+abbrev pub on_block : State → Name → (Layout → Option Block → Turn) → State × PlainReply
+on_block s name f =
+    let turn = f s.layout (find s.blocks name) in
+    (record s { blocks = hold s.blocks name turn.block; layout = turn.layout }, turn.answer)
 
--- what an operation of track t does and answers, where the raw source gave this answer
-abbrev pub effect : State → ℕ → Action → Ask → State × PlainReply
-effect s t acquire raw = if is_owner s.owner t then (s, held) else (record s { owner = Some t }, ok)
-effect s t release raw = if is_owner s.owner t then (record s { owner = None }, ok) else (s, not_held)
-effect s t (malloc v name n) raw = on_block s name (made v n (is_owner s.owner t) raw)
-effect s t (free v name) raw = on_block s name (freed v (is_owner s.owner t))
-effect s t (poke name offset new) raw = on_block s name (written offset new)
-effect s t (peek name offset count) raw = on_block s name (read offset count)
-effect s t (refuse side k) raw = (s, ok)
-effect s t other raw = (s, unsaid)
+-- the heap's shape
+abbrev pub view_of : State → View
+view_of s = shape_of (pool_count s.blocks) (raw_count s.blocks) s.layout
+
+-- what an operation of track t does and answers, with these answers of the arena source and of the raw source
+abbrev pub effect : State → ℕ → Action → Grant → Ask → State × PlainReply
+effect s t acquire arena raw = if is_owner s.owner t then (s, held) else (record s { owner = Some t }, ok)
+effect s t release arena raw = if is_owner s.owner t then (record s { owner = None }, ok) else (s, not_held)
+effect s t (malloc v name n) arena raw = on_block s name (made v n (is_owner s.owner t) arena raw)
+effect s t (free v name) arena raw = on_block s name (freed v (is_owner s.owner t))
+effect s t (poke name offset new) arena raw = on_block s name (written offset new)
+effect s t (peek name offset count) arena raw = on_block s name (read offset count)
+effect s t heap arena raw = (s, shape (view_of s))
+effect s t (refuse side k) arena raw = (s, ok)
+effect s t other arena raw = (s, unsaid)

@@ -1,6 +1,7 @@
 -- Tracks, and one event of them.
 use Rattle.std.specs.Prelude.{ℕ, ◌+◌, ◌-◌, Bool, true, false, not, ◌&&◌, ◌||◌, if◌then◌else◌, List, [], ◌∷◌, length, slice_get, slice_set, slice_index, Option, Some, None, is_some}
 use Rattle.std.specs.Option.{option_and_then}
+use Rattle.mem_base.specs.declared.history.Grant.{Grant}
 use Rattle.mem_base.specs.declared.history.Ask.{Ask}
 use Rattle.mem_base.specs.declared.history.Entry.{Entry}
 use Rattle.trace_model.specs.Plain.{Action, acquire, PlainTrack}
@@ -44,13 +45,13 @@ is_fault reply = false
 abbrev pub settled : List PlainTrack → ℕ → State × PlainReply → State × PlainReply
 settled tracks t r = if is_fault r.1 then (record r.0 { faulted = true }, r.1) else (advanced tracks t r.0, r.1)
 
-abbrev pub event_of : List PlainTrack → State → ℕ → Ask → Option Action → State × PlainReply
-event_of tracks s t raw None = (s, unsaid)
-event_of tracks s t raw (Some a) = settled tracks t (effect s t a raw)
+abbrev pub event_of : List PlainTrack → State → ℕ → Grant → Ask → Option Action → State × PlainReply
+event_of tracks s t arena raw None = (s, unsaid)
+event_of tracks s t arena raw (Some a) = settled tracks t (effect s t a arena raw)
 
 -- the next event of the entry's track, with the answers of the entry
 unfoldable pub event : List PlainTrack → State → Entry → State × PlainReply
-event tracks s e = event_of tracks s e.track e.raw (next_action tracks s e.track)
+event tracks s e = event_of tracks s e.track e.arena e.raw (next_action tracks s e.track)
 
 -- how many operations are left to do over all tracks, where each has done so many
 abbrev pub ops_left : List PlainTrack → List ℕ → ℕ

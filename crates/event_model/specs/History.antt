@@ -1,18 +1,19 @@
 -- Histories of events.
-use Rattle.std.specs.Prelude.{◌≡◌, ◌⊎◌, ℕ, true, false, List, [], ◌∷◌, ◌++◌, map, length, slice_index, None}
+use Rattle.std.specs.Prelude.{◌≡◌, ◌⊎◌, ℕ, ◌-◌, true, false, List, [], ◌∷◌, ◌++◌, map, length, slice_index, None}
 use Rattle.mem_base.specs.declared.history.Entry.{Entry}
-use Rattle.mem_base.specs.declared.history.Grant.TheVariants as grant
 use Rattle.mem_base.specs.declared.reply.Totals.{Totals}
 use Rattle.mem_base.specs.declared.reply.Counts.{Counts}
 use Rattle.trace_model.specs.Plain.{PlainTrack}
-use Rattle.event_model.specs.Blocks.{total_size}
+use Rattle.layout_model.specs.Asks.{FitsRequest}
+use Rattle.layout_model.specs.Layout.{empty_layout}
+use Rattle.event_model.specs.Blocks.{total_size, pool_count}
 use Rattle.event_model.specs.Effects.{State}
 use Rattle.event_model.specs.Events.{is_ready, next_action, event, is_fault}
-use Rattle.event_model.specs.Requests.{next_asks, was_asked}
+use Rattle.event_model.specs.Requests.{next_request}
 
 -- nothing is held, and nothing is done
 abbrev pub opening : List PlainTrack → State
-opening tracks = record { blocks = []; owner = None; done = map (λ t. 0) tracks; faulted = false }
+opening tracks = record { blocks = []; layout = empty_layout; owner = None; done = map (λ t. 0) tracks; faulted = false }
 
 -- the state that events lead to
 abbrev pub state_after : List PlainTrack → State → List Entry → State
@@ -24,13 +25,12 @@ abbrev pub last_state : List PlainTrack → List Entry → State
 last_state tracks es = state_after tracks (opening tracks) es
 
 -- the entry may come next: no fault has come, its track is ready, it is at the operation that comes next,
--- and its answers fit: no operation asks for an arena yet, and the raw source answers exactly where it is asked
+-- and its answers fit what that operation asks for: each source answers exactly where it is asked
 pub record IsNext (tracks : List PlainTrack) (s : State) (e : Entry) : Type 0 where
   pub no_fault : s.faulted ≡ false
   pub ready : is_ready tracks s e.track ≡ true
   pub at : e.at ≡ slice_index s.done e.track
-  pub arena : e.arena ≡ grant.NotAsked
-  pub raw : was_asked e.raw ≡ next_asks s e.track (next_action tracks s e.track)
+  pub fits : FitsRequest s.layout (next_request s e.track (next_action tracks s e.track)) e.arena e.raw
 
 abbrev pub IsLegalFrom : List PlainTrack → State → List Entry → Type 0
 IsLegalFrom tracks s [] = Unit {0}
@@ -56,9 +56,15 @@ pub record EndsInFault (tracks : List PlainTrack) (es : List Entry) : Type 0 whe
   pub sound : (last_state tracks earlier).faulted ≡ false
   pub fault : is_fault (event tracks (last_state tracks earlier) last).1 ≡ true
 
--- no arena was asked for
-abbrev pub no_counts : Counts
-no_counts = record { given = 0; back = 0; out = 0; most = 0; pooled = 0 }
+-- the arenas granted, given back, out, and most out at once, and the blocks in pools
+abbrev pub counts_of : State → Counts
+counts_of s = record {
+  given = s.layout.given;
+  back = s.layout.back;
+  out = s.layout.given - s.layout.back;
+  most = s.layout.most;
+  pooled = pool_count s.blocks;
+}
 
 -- the numbers of a history's summary
 abbrev pub totals_of : List PlainTrack → List Entry → Totals
@@ -67,7 +73,7 @@ totals_of tracks es = let s = last_state tracks es in record {
   owner = s.owner;
   blocks = length s.blocks;
   bytes = total_size s.blocks;
-  counts = no_counts;
+  counts = counts_of s;
   traced = 0;
   peak = 0;
 }

@@ -7,6 +7,7 @@ use Rattle.mem_base.specs.declared.trace.Letter.{Letter}
 use Rattle.mem_base.specs.declared.trace.Side.{Side}
 use Rattle.trace_model.specs.Plain.{Name, malloc, PlainTrack}
 use Rattle.trace_model.specs.Spelling.{action_count}
+use Rattle.layout_model.specs.Sound.{IsSound}
 use Rattle.event_model.specs.Blocks.{find}
 use Rattle.event_model.specs.Effects.{State, null, max_size, max_data, is_unlocked, is_owner}
 use Rattle.event_model.specs.Events.{event, left_in, next_action}
@@ -67,3 +68,12 @@ IsNull tracks s e = (v : Letter) × (name : Name) × (n : ℕ) × (next_action t
 -- an event answers null exactly where it is a malloc into a free name whose size is too great or whose request was refused
 abbrev pub NullExactly : Type 0
 NullExactly = (tracks : List PlainTrack) (s : State) (e : Entry) → IsNext tracks s e → ((event tracks s e).1 ≡ null) ↔ IsNull tracks s e
+
+-- the layout of a legal history's last state is sound
+abbrev pub LegalIsSound : Type 0
+LegalIsSound = (tracks : List PlainTrack) (es : List Entry) → IsLegal tracks es → IsSound (last_state tracks es).layout
+
+-- no more arenas are granted and no more pools taken than there are events
+abbrev pub FewAreTaken : Type 0
+FewAreTaken = (tracks : List PlainTrack) (es : List Entry)
+    → ((last_state tracks es).layout.given ≤ length es) × (length (last_state tracks es).layout.full ≤ length es)

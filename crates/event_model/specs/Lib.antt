@@ -4,4 +4,5 @@ pub mod Events
 pub mod History
 pub mod Laws
 pub mod Plans
+pub mod Replies
 pub mod Requests

@@ -1,5 +1,6 @@
--- Which operations ask a source, and how many requests and refusals a history has.
-use Rattle.std.specs.Prelude.{ℕ, ◌+◌, Bool, true, false, List, [], ◌∷◌, Option, Some, None}
+-- What operations ask the sources for, and how many requests and refusals a history has.
+use Rattle.std.specs.Prelude.{ℕ, ◌+◌, List, [], ◌∷◌, Option, Some, None}
+use Rattle.mem_base.specs.declared.trace.Letter.{Letter}
 use Rattle.mem_base.specs.declared.trace.Side.{Side}
 use Rattle.mem_base.specs.declared.trace.Side.TheVariants as side
 use Rattle.mem_base.specs.declared.history.Entry.{Entry}
@@ -7,40 +8,30 @@ use Rattle.mem_base.specs.declared.history.Grant.{Grant}
 use Rattle.mem_base.specs.declared.history.Grant.TheVariants as grant
 use Rattle.mem_base.specs.declared.history.Ask.{Ask}
 use Rattle.mem_base.specs.declared.history.Ask.TheVariants as ask
+use Rattle.layout_model.specs.Asks.{Request}
+use Rattle.layout_model.specs.Asks.Request.{NoRequest}
 use Rattle.trace_model.specs.Plain.{Action, malloc}
-use Rattle.block_model.specs.Block.{Body}
-use Rattle.event_model.specs.Blocks.{find}
-use Rattle.event_model.specs.Effects.{State, Decision, asks, decision, is_owner}
+use Rattle.event_model.specs.Blocks.{Block, find}
+use Rattle.event_model.specs.Effects.{State, Decision, asks, decision, request, is_owner}
 
--- ---- who asks
+-- ---- what is asked
 
--- malloc asks the raw source for a block: the name is free, and the request comes that far
-abbrev pub malloc_asks : Option Body → Decision → Bool
-malloc_asks None asks = true
-malloc_asks now d = false
+-- malloc of n bytes asks for a block: the name is free, and the request comes that far
+abbrev pub malloc_request : Letter → ℕ → Option Block → Decision → Request
+malloc_request v n None asks = request v n
+malloc_request v n now d = NoRequest
 
--- whether an operation of track t asks the raw source
-abbrev pub asks_raw : State → ℕ → Action → Bool
-asks_raw s t (malloc v name n) = malloc_asks (find s.blocks name) (decision v n (is_owner s.owner t))
-asks_raw s t a = false
+-- what an operation of track t asks for
+abbrev pub request_of : State → ℕ → Action → Request
+request_of s t (malloc v name n) = malloc_request v n (find s.blocks name) (decision v n (is_owner s.owner t))
+request_of s t a = NoRequest
 
 -- the same of the track's next operation, where there is one
-abbrev pub next_asks : State → ℕ → Option Action → Bool
-next_asks s t None = false
-next_asks s t (Some a) = asks_raw s t a
+abbrev pub next_request : State → ℕ → Option Action → Request
+next_request s t None = NoRequest
+next_request s t (Some a) = request_of s t a
 
 -- ---- answers
-
--- whether the answer is one to a request
-abbrev pub was_asked : Ask → Bool
-was_asked ask.NotAsked = false
-was_asked ask.Refused = true
-was_asked ask.Granted = true
-
-abbrev pub is_refused : Ask → Bool
-is_refused ask.NotAsked = false
-is_refused ask.Refused = true
-is_refused ask.Granted = false
 
 -- how many requests an answer of the raw source is to, and how many refusals it is
 abbrev pub raw_asks : Ask → ℕ

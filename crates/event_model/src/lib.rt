@@ -3,7 +3,7 @@
 //! histories.
 #![tactic(auto)]
 
-ghost use Rattle.event_model.specs.Laws.{OneMoreIsLegal, OneMoreState, OneMoreLeavesLess, LegalIsShort, FaultIsLast, OneMoreCounts, FewAreAsked, OneMoreIsPlanned, OneMoreHeeds, NullExactly};
+ghost use Rattle.event_model.specs.Laws.{OneMoreIsLegal, OneMoreState, OneMoreLeavesLess, LegalIsShort, FaultIsLast, OneMoreCounts, FewAreAsked, OneMoreIsPlanned, OneMoreHeeds, NullExactly, LegalIsSound, FewAreTaken};
 
 /// A legal history with one more entry that may come next is legal, leads to that entry's event, and
 /// leaves less to do.
@@ -32,7 +32,17 @@ pub fn one_more_request()
 {}
 
 /// An event answers null exactly where it is a request for a block into a free name, and the size is
-/// too great or the source refused.
+/// too great or the raw source refused.
 pub fn null_exactly()
     ensures { NullExactly }
+{}
+
+/// The layout of a legal history's last state is sound.
+pub fn legal_layouts_are_sound()
+    ensures { LegalIsSound }
+{}
+
+/// No more arenas are granted and no more pools taken than there are events.
+pub fn few_are_taken()
+    ensures { FewAreTaken }
 {}

@@ -2,6 +2,7 @@ pub mod Sizes
 pub mod Layout
 pub mod Place
 pub mod Unplace
+pub mod View
 pub mod Asks
 pub mod Sound
 pub mod Laws

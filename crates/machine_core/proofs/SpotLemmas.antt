@@ -8,17 +8,21 @@ use Rattle.mem_base.specs.declared.history.Entry.{Entry}
 use Rattle.mem_base.specs.declared.trace.Trace.{Trace}
 use Rattle.trace_model.specs.Plain.{plain}
 use Rattle.event_model.specs.History.{last_state}
-use Rattle.block_model.specs.Block.{Body, image_of}
+use Rattle.block_model.specs.Block.{image_of}
+use Rattle.domain_api.specs.Held.{DomainsView}
+use Rattle.event_model.specs.Blocks.{Block}
 use Rattle.extents.specs.Extent.{Extent, covers}
 use Rattle.extents.specs.Sums.{tally, Has}
 use Rattle.debug_guard.specs.Guard.{Guard, guard_extent, piece_of}
-use Rattle.machine_core.specs.Slots.{extents_of, pieces_of, piece_in, body_at, body_in}
-use Rattle.machine_core.specs.Spots.{names, has_address, spots_from, spot_at, AreSpots, IsSpot}
+use Rattle.extents.proofs.Lists.{has_left, has_right}
+use Rattle.machine_core.specs.Slots.{Places, IsStore, block_at, block_in, extents_of, home_at, loans_of, pieces_of, piece_in}
+use Rattle.machine_core.specs.Spots.{names, has_address, spots_from, spot_at, AreSpots, IsSpot, LiesInOne}
 use Rattle.machine_core.specs.Stands.{IsMachine}
 use Rattle.machine_core.specs.View.{MachineView}
 use Rattle.machine_core.specs.declared.spot.Spot.{Spot}
-use Rattle.machine_core.proofs.SlotLemmas.{bodies_length, name_holds}
+use Rattle.machine_core.proofs.SlotLemmas.{blocks_length, name_holds}
 use Rattle.machine_core.proofs.StoreLemmas.{length-image_of, stored_has}
+use Rattle.machine_core.proofs.KeepLemmas.{slot_loan}
 
 -- one more slot
 spots_push : (k : ℕ) (slots : List (Option Guard)) (slot : Option Guard) → spots_from k (slots ++ slot ∷ []) ≡ spots_from k slots ++ spots_from (k + length slots) (slot ∷ [])
@@ -69,7 +73,7 @@ is_of k (Some g ∷ ss) spot has = elim has [
 -- ---- one spot for each block
 
 abbrev held_at : List (Option Guard) → ℕ → ℕ
-held_at slots i = cond (is_some (body_at slots i)) 1 0
+held_at slots i = cond (is_some (get_or slots i None)) 1 0
 
 -- the number is k, or another
 abbrev Tells : ℕ → ℕ → Type 0
@@ -117,38 +121,50 @@ piece_at (s ∷ ss) (suc i) g is = piece_at ss i g is
 image_there : (g : Guard) → take (length g.body + 8) (piece_of g).bytes ≡ image_of g.body
 image_there g = ap (λ (n : ℕ). take n (image_of g.body ++ g.rest)) (sym (length-image_of g.body)) ∙ take-append_seam (image_of g.body) g.rest
 
-spot_is_right : (trace : Trace) (es : List Entry) (slots : List (Option Guard)) (raws : List Extent) (owner : Option ℕ) (done : List ℕ) (faulted : Bool)
-    → IsMachine trace es slots raws owner done faulted → (i : ℕ) (g : Guard) → i < length slots → get_or slots i None ≡ Some g
-    → IsSpot (record { trace = trace; entries = es; held = raws; pieces = pieces_of slots }) (spot_at i g)
-spot_is_right trace es slots raws owner done faulted machine i g lt is = record {
-  known = omega (arith, lt, machine.stands.blocks_are.size, bodies_length slots);
-  piece = piece_of g;
-  memory = piece_at slots i g is;
-  place = refl;
-  len = refl;
-  aligned = machine.stored.aligned i g is;
-  held = record { region = guard_extent g; is = stored_has slots raws i g machine.stored is; maker = refl; inside = (omega arith, omega arith) };
-  block = g.body;
-  live = name_holds trace.texts slots (last_state (plain trace).tracks es).blocks (record { 0 = i }) machine.stands.blocks_are lt ∙ ap body_in is;
-  room = omega (arith, length-append (image_of g.body) g.rest, length-image_of g.body);
-  image = image_there g;
-}
+-- a block lies in one of the regions that are held
+lies : (slots : List (Option Guard)) (d : DomainsView) (i : ℕ) (g : Guard) → IsStore slots d → get_or slots i None ≡ Some g → LiesInOne (guard_extent g) (d.heap.regions ++ d.raws)
+lies slots d i g store is = elim (slot_loan slots d i g store is) [
+  | inl pooled ↦
+      let w = store.sound.heap_is.within (guard_extent g) pooled in
+      record { region = w.0; is = has_left w.0 d.heap.regions d.raws w.1.0; maker = w.1.1; inside = (w.1.2, w.1.3) }
+  | inr raw ↦ record { region = guard_extent g; is = has_right (guard_extent g) d.heap.regions d.raws raw; maker = refl; inside = (omega arith, omega arith) }
+]
 
-pub spots_are : (trace : Trace) (es : List Entry) (slots : List (Option Guard)) (raws : List Extent) (owner : Option ℕ) (done : List ℕ) (faulted : Bool)
-    → IsMachine trace es slots raws owner done faulted → (spots : List Spot) → spots ≡ spots_from 0 slots
-    → AreSpots (record { trace = trace; entries = es; held = raws; pieces = pieces_of slots }) spots
-spots_are trace es slots raws owner done faulted machine spots are =
-    let m : MachineView = record { trace = trace; entries = es; held = raws; pieces = pieces_of slots } in
-    record {
-      each = λ spot has.
-          let of = is_of 0 slots spot (subst (Has spot) are has) in
-          let same : spot ≡ spot_at of.at of.block = of.spot_is ∙ ap (λ (n : ℕ). spot_at n of.block) (omega arith) in
-          subst (IsSpot m) (sym same) (spot_is_right trace es slots raws owner done faulted machine of.at of.block of.inside of.is);
-      one = λ name lt.
-          let i = name.0 in
-          let same : i ≡ 0 + i = omega arith in
-          let known : i < length slots = omega (arith, lt, machine.stands.blocks_are.size, bodies_length slots) in
-          ap (tally (names i)) are ∙ ap (λ (n : ℕ). tally (names n) (spots_from 0 slots)) same ∙ names_one 0 i slots
-          ∙ ap (λ (o : Option Body). cond (is_some o) 1 0) (sym (name_holds trace.texts slots (last_state (plain trace).tracks es).blocks name machine.stands.blocks_are known));
-      apart = λ x. omega (arith, ap (tally (has_address x)) are, addresses x 0 slots, machine.stored.all (covers x), machine.stored.apart x);
-    }
+abbrev view : Trace → List Entry → List (Option Guard) → DomainsView → MachineView
+view trace es slots d = record { trace = trace; entries = es; arenas = d.heap.regions; raws = d.raws; pieces = pieces_of slots }
+
+module _ (trace : Trace) (es : List Entry) (slots : List (Option Guard)) (d : DomainsView) (owner : Option ℕ) (done : List ℕ) (faulted : Bool) (machine : IsMachine trace es slots d owner done faulted) where
+  spot_is_right : (i : ℕ) (g : Guard) → i < length slots → get_or slots i None ≡ Some g → IsSpot (view trace es slots d) (spot_at i g)
+  spot_is_right i g lt is = record {
+    known = omega (arith, lt, machine.stands.state.blocks.size, blocks_length d.heap.places slots);
+    piece = piece_of g;
+    memory = piece_at slots i g is;
+    place = refl;
+    len = refl;
+    aligned = machine.store.stored.aligned i g is;
+    held = lies slots d i g machine.store is;
+    block = record { body = g.body; home = home_at d.heap.places g.place };
+    live = name_holds trace.texts d.heap.places slots (last_state (plain trace).tracks es).blocks (record { 0 = i }) machine.stands.state.blocks lt ∙ ap (block_in d.heap.places) is;
+    room = omega (arith, length-append (image_of g.body) g.rest, length-image_of g.body);
+    image = image_there g;
+  }
+
+  live_same : (o : Option Guard) → is_some (block_in d.heap.places o) ≡ is_some o
+  live_same None = refl
+  live_same (Some g) = refl
+
+  pub spots_are : (spots : List Spot) → spots ≡ spots_from 0 slots → AreSpots (view trace es slots d) spots
+  spots_are spots are = record {
+    each = λ spot has.
+        let of = is_of 0 slots spot (subst (Has spot) are has) in
+        let same : spot ≡ spot_at of.at of.block = of.spot_is ∙ ap (λ (n : ℕ). spot_at n of.block) (omega arith) in
+        subst (IsSpot (view trace es slots d)) (sym same) (spot_is_right of.at of.block of.inside of.is);
+    one = λ name lt.
+        let i = name.0 in
+        let same : i ≡ 0 + i = omega arith in
+        let known : i < length slots = omega (arith, lt, machine.stands.state.blocks.size, blocks_length d.heap.places slots) in
+        ap (tally (names i)) are ∙ ap (λ (n : ℕ). tally (names n) (spots_from 0 slots)) same ∙ names_one 0 i slots
+        ∙ ap (λ (b : Bool). cond b 1 0) (sym (live_same (get_or slots i None)))
+        ∙ ap (λ (o : Option Block). cond (is_some o) 1 0) (sym (name_holds trace.texts d.heap.places slots (last_state (plain trace).tracks es).blocks name machine.stands.state.blocks known));
+    apart = λ x. omega (arith, ap (tally (has_address x)) are, addresses x 0 slots, machine.store.stored.all (covers x), machine.store.stored.apart x);
+  }

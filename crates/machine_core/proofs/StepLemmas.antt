@@ -4,35 +4,38 @@ use Rattle.std.specs.Prelude.{slice_index, IfSome, IfNone, IfOk, OnErr, Result, 
 use Rattle.std.specs.Option.{option_map, option_and_then}
 use Rattle.std.proofs.lemmas.Option.{slice_get_within, slice_get-map, slice_get-get_or, slice_get_past}
 use Rattle.std.proofs.Math.Seq.{take-append_seam}
-use Rattle.std.proofs.lemmas.List.{length-replicate}
+use Rattle.std.proofs.lemmas.List.{length-map, length-replicate}
 use Rattle.std.proofs.lemmas.List.Sums.{sum_by-cons}
 use Rattle.mem_base.specs.Texts.{IsTable}
 use Rattle.mem_base.specs.declared.history.Entry.{Entry}
-use Rattle.mem_base.specs.declared.history.Grant.TheVariants as grant
-use Rattle.mem_base.specs.declared.history.Ask.{Ask}
 use Rattle.mem_base.specs.declared.reply.Step.{Step}
 use Rattle.mem_base.specs.declared.trace.Op.{Op}
-use Rattle.mem_base.specs.declared.trace.Side.TheVariants as sides
+use Rattle.mem_base.specs.declared.trace.Side.{Side}
 use Rattle.mem_base.specs.declared.trace.Trace.{Trace}
 use Rattle.mem_base.specs.declared.trace.Track.{Track}
-use Rattle.trace_model.specs.Known.{op_at, IsKnownTrace}
+use Rattle.trace_model.specs.Known.{op_at, op_count, IsKnownTrace}
 use Rattle.trace_model.specs.Plain.{Name, Action, PlainTrack, track_of, tracks_of, action_of, plain}
-use Rattle.block_model.specs.Block.{Body}
+use Rattle.layout_model.specs.Asks.{FitsRequest, Request}
+use Rattle.layout_model.specs.Layout.{Layout, empty_layout}
 use Rattle.event_model.specs.Effects.{State, PlainReply, effect}
 use Rattle.event_model.specs.Events.{event, event_of, settled, advanced, is_fault, let_go, action_after, next_action, may_do, is_ready}
 use Rattle.event_model.specs.History.{opening, last_state, IsNext}
-use Rattle.event_model.specs.Requests.{asks_raw, next_asks, was_asked}
+use Rattle.event_model.specs.Requests.{asks_in, next_request, refusals_in}
 use Rattle.event_model.proofs.HistoryLaws.{state_push, legal_push}
-use Rattle.event_model.proofs.LeftLaws.{effect_keeps}
+use Rattle.event_model.proofs.LeftLaws.{effect_keeps, legal_short}
+use Rattle.event_model.proofs.TakenLaws.{few_taken as few_taken_in}
+use Rattle.trace_model.specs.Spelling.{action_count}
 use Rattle.event_model.specs.Plans.{GrowsBy, lists}
-use Rattle.event_model.specs.Requests.{raw_asks, raw_refusals}
 use Rattle.extents.specs.Extent.{Extent}
 use Rattle.extents.specs.Sums.{AllIn}
 use Rattle.sources.specs.Source.{SourceView}
 use Rattle.sources.specs.Holder.{Answered}
-use Rattle.machine_core.specs.Acts.{Acts, Asks, Does, Fails}
+use Rattle.domain_api.specs.Held.{DomainsView, FewTaken}
+use Rattle.event_model.specs.Blocks.{Block}
+use Rattle.machine_core.specs.Acts.{Acts, Asks, Done, Does, Fails, StandsFor}
 use Rattle.machine_core.specs.View.{Requests}
-use Rattle.machine_core.specs.Slots.{Holds, bodies_of, count_in, size_in}
+use Rattle.debug_guard.specs.Guard.{Guard}
+use Rattle.machine_core.specs.Slots.{Holds, Places, Standing, blocks_of}
 use Rattle.machine_core.specs.Stands.{Stands}
 
 -- the next action is the next operation, with its name written out
@@ -70,6 +73,10 @@ module _ (ts : List PlainTrack) (t : ℕ) (s : State) (reply : PlainReply) where
   chosen_blocks true = refl
   chosen_blocks false = refl
 
+  chosen_layout : (b : Bool) → (chosen b).0.layout ≡ s.layout
+  chosen_layout true = refl
+  chosen_layout false = refl
+
   chosen_owner : (b : Bool) → (chosen b).0.owner ≡ cond b s.owner next_owner
   chosen_owner true = refl
   chosen_owner false = refl
@@ -91,6 +98,9 @@ module _ (ts : List PlainTrack) (t : ℕ) (s : State) (reply : PlainReply) where
   settled_blocks : after.blocks ≡ s.blocks
   settled_blocks = chosen_blocks (is_fault reply)
 
+  settled_layout : after.layout ≡ s.layout
+  settled_layout = chosen_layout (is_fault reply)
+
   settled_owner : after.owner ≡ cond (is_fault reply) s.owner next_owner
   settled_owner = chosen_owner (is_fault reply)
 
@@ -101,8 +111,8 @@ module _ (ts : List PlainTrack) (t : ℕ) (s : State) (reply : PlainReply) where
   settled_fault sound = chosen_fault sound (is_fault reply)
 
 -- what is known before an event: the operation that comes next
-module _ (trace : Trace) (es : List Entry) (slots : List (Option Body)) (owner : Option ℕ) (done : List ℕ) (faulted : Bool) (t at : ℕ) (op : Op)
-    (stands : Stands trace es slots owner done faulted) (here : at ≡ get_or done t at) (is_op : op_at trace.tracks t at ≡ Some op) where
+module _ (trace : Trace) (es : List Entry) (old : Standing) (done : List ℕ) (faulted : Bool) (t at : ℕ) (op : Op)
+    (stands : Stands trace es old done faulted) (here : at ≡ get_or done t at) (is_op : op_at trace.tracks t at ≡ Some op) where
   abbrev now : State
   now = last_state (tracks trace) es
 
@@ -123,85 +133,87 @@ module _ (trace : Trace) (es : List Entry) (slots : List (Option Body)) (owner :
   pub next_is : next_action (tracks trace) now t ≡ Some (action_of trace.texts op)
   next_is = ap (action_after (tracks trace) t) (sym place_is) ∙ action_is trace.texts trace.tracks t at ∙ ap (option_map (action_of trace.texts)) is_op
 
-  -- what the source was asked, by the entry
-  pub requests_are : (e : Entry) (raw : Ask) (held held_then : List Extent) (old new : SourceView ℕ) → e.track ≡ t → e.raw ≡ raw → Asks op raw held held_then old new
-      → Requests trace es e held held_then old new
-  requests_are e raw held held_then old new its_track its_raw asked = record {
-    answered = subst (λ (a : Ask). Answered (raw_asks a) (raw_refusals a) old new) (sym its_raw) asked.answered;
-    plan = subst (λ (u : ℕ). GrowsBy (lists sides.Raw old.asked (next_action (tracks trace) now u)) old.plan new.plan) (sym its_track)
-        (subst (λ (a : Option Action). GrowsBy (lists sides.Raw old.asked a) old.plan new.plan) (sym next_is) (asked.plan trace.texts));
+  -- what a source was asked, by the entry
+  pub requests_are : {S : Type 0} (side : Side) (e : Entry) (asks refusals : ℕ) (held held_then : List Extent) (before after : SourceView S) → e.track ≡ t → asks ≡ asks_in side e → refusals ≡ refusals_in side e
+      → Asks op side asks refusals held held_then before after → Requests side trace es e held held_then before after
+  requests_are {S} side e asks refusals held held_then before after its_track its_asks its_refusals asked = record {
+    answered = subst (λ (n : ℕ). Answered n (refusals_in side e) before after) its_asks (subst (λ (n : ℕ). Answered asks n before after) its_refusals asked.answered);
+    plan = subst (λ (u : ℕ). GrowsBy (lists side before.asked (next_action (tracks trace) now u)) before.plan after.plan) (sym its_track)
+        (subst (λ (a : Option Action). GrowsBy (lists side before.asked a) before.plan after.plan) (sym next_is) (asked.plan trace.texts));
     traded = asked.traded;
   }
 
   -- what the operation did, and the entry that is kept of it
-  module _ (e : Entry) (its_track : e.track ≡ t) (news : List (Option Body)) (owner_then : Option ℕ) (reply : PlainReply)
-      (acts : Acts t op slots news owner owner_then e.raw reply) where
+  module _ (e : Entry) (its_track : e.track ≡ t) (new : Standing) (reply : PlainReply) (acts : Acts t op old new e.arena e.raw reply) where
     abbrev turn : State × PlainReply
-    turn = effect now t (action_of trace.texts op) e.raw
+    turn = effect now t (action_of trace.texts op) e.arena e.raw
 
     abbrev then : State
     then = turn.0
 
-    abbrev did : Does trace.texts turn news owner_then reply × (was_asked e.raw ≡ asks_raw now t (action_of trace.texts op))
-    did = acts trace.texts now stands.table.distinct stands.blocks_are (sym stands.owner_is)
+    abbrev did : Done trace.texts now t op e.arena e.raw new reply
+    did = acts trace.texts now stands.table.distinct stands.state
 
     pub event_is : event (tracks trace) now e ≡ settled (tracks trace) t turn
     unfolding event
     event_is =
-        ap (λ (u : ℕ). event_of (tracks trace) now u e.raw (next_action (tracks trace) now u)) its_track
-        ∙ ap (event_of (tracks trace) now t e.raw) next_is
+        ap (λ (u : ℕ). event_of (tracks trace) now u e.arena e.raw (next_action (tracks trace) now u)) its_track
+        ∙ ap (event_of (tracks trace) now t e.arena e.raw) next_is
 
     pub reply_is : reply ≡ (event (tracks trace) now e).1
-    reply_is = did.0.answer ∙ sym (ap (λ (r : State × PlainReply). r.1) event_is ∙ settled_reply (tracks trace) t then turn.1)
+    reply_is = did.does.answer ∙ sym (ap (λ (r : State × PlainReply). r.1) event_is ∙ settled_reply (tracks trace) t then turn.1)
 
-    module _ (its_place : e.at ≡ at) (no_arena : e.arena ≡ grant.NotAsked) (ready : is_ready (tracks trace) now t ≡ true) (sound : faulted ≡ false) where
+    module _ (its_place : e.at ≡ at) (ready : is_ready (tracks trace) now t ≡ true) (sound : faulted ≡ false) where
       pub is_next : IsNext (tracks trace) now e
       is_next = record {
         no_fault = sym stands.fault_is ∙ sound;
         ready = ap (is_ready (tracks trace) now) its_track ∙ ready;
         at = its_place ∙ place_is ∙ ap (slice_index now.done) (sym its_track);
-        arena = no_arena;
-        raw = did.1 ∙ sym (ap (next_asks now t) next_is) ∙ ap (λ (u : ℕ). next_asks now u (next_action (tracks trace) now u)) (sym its_track);
+        fits = subst (λ (u : ℕ). FitsRequest now.layout (next_request now u (next_action (tracks trace) now u)) e.arena e.raw) (sym its_track)
+            (subst (λ (a : Option Action). FitsRequest now.layout (next_request now t a) e.arena e.raw) (sym next_is) did.fits);
       }
 
-      module _ (owner' : Option ℕ) (owned : owner' ≡ cond (is_fault reply) owner_then (let_go (tracks trace) t (slice_index done t + 1) owner_then))
+      module _ (owner' : Option ℕ) (owned : owner' ≡ cond (is_fault reply) new.owner (let_go (tracks trace) t (slice_index done t + 1) new.owner))
           (done' : List ℕ) (did_one : done' ≡ cond (is_fault reply) done (set done t (slice_index done t + 1)))
           (faulted' : Bool) (fell : faulted' ≡ is_fault reply) where
         then_is : last_state (tracks trace) (es ++ e ∷ []) ≡ (settled (tracks trace) t turn).0
         then_is = state_push (tracks trace) (opening (tracks trace)) es e ∙ ap (λ (r : State × PlainReply). r.0) event_is
 
         then_done : then.done ≡ done
-        then_done = (effect_keeps now t (action_of trace.texts op) e.raw).done ∙ sym stands.done_is
+        then_done = (effect_keeps now t (action_of trace.texts op) e.arena e.raw).done ∙ sym stands.done_is
 
         length_kept : (b : Bool) (n : ℕ) → length (cond b done (set done t n)) ≡ length done
         length_kept true n = refl
         length_kept false n = length-set done t n
 
         answer : reply ≡ turn.1
-        answer = did.0.answer
+        answer = did.does.answer
 
-        pub stands_then : Stands trace (es ++ e ∷ []) news owner' done' faulted'
+        pub stands_then : Stands trace (es ++ e ∷ []) (record { slots = new.slots; layout = new.layout; owner = owner' }) done' faulted'
         stands_then = record {
           legal = legal_push (tracks trace) (opening (tracks trace)) es e stands.legal is_next;
           table = stands.table;
           known = stands.known;
           tracks = ap length did_one ∙ length_kept (is_fault reply) (slice_index done t + 1) ∙ stands.tracks;
-          blocks_are = subst (λ (st : State). Holds trace.texts news st.blocks) (sym then_is)
-              (subst (Holds trace.texts news) (sym (settled_blocks (tracks trace) t then turn.1)) did.0.blocks);
-          owner_is = owned
-              ∙ (λ i. cond (is_fault (answer i)) (did.0.owner_is i) (let_go (tracks trace) t (slice_index (sym then_done i) t + 1) (did.0.owner_is i)))
-              ∙ sym (settled_owner (tracks trace) t then turn.1)
-              ∙ ap (λ (st : State). st.owner) (sym then_is);
+          state = record {
+            blocks = subst (λ (st : State). Holds trace.texts new.slots st.blocks) (sym then_is)
+                (subst (Holds trace.texts new.slots) (sym (settled_blocks (tracks trace) t then turn.1)) did.does.blocks);
+            layout = did.does.layout ∙ sym (settled_layout (tracks trace) t then turn.1) ∙ ap (λ (st : State). st.layout) (sym then_is);
+            owner = owned
+                ∙ (λ i. cond (is_fault (answer i)) (did.does.owner i) (let_go (tracks trace) t (slice_index (sym then_done i) t + 1) (did.does.owner i)))
+                ∙ sym (settled_owner (tracks trace) t then turn.1)
+                ∙ ap (λ (st : State). st.owner) (sym then_is);
+          };
           done_is = did_one
               ∙ (λ i. cond (is_fault (answer i)) (sym then_done i) (set (sym then_done i) t (slice_index (sym then_done i) t + 1)))
               ∙ sym (settled_done (tracks trace) t then turn.1)
               ∙ ap (λ (st : State). st.done) (sym then_is);
           fault_is = fell ∙ ap is_fault answer
-              ∙ sym (settled_fault (tracks trace) t then turn.1 ((effect_keeps now t (action_of trace.texts op) e.raw).faulted ∙ sym stands.fault_is ∙ sound))
+              ∙ sym (settled_fault (tracks trace) t then turn.1 ((effect_keeps now t (action_of trace.texts op) e.arena e.raw).faulted ∙ sym stands.fault_is ∙ sound))
               ∙ ap (λ (st : State). st.faulted) (sym then_is);
         }
 
-abbrev none_held : Option Body
+abbrev none_held : Option Block
 none_held = None
 
 none_at : (n i : ℕ) → i < n → slice_get (replicate n none_held) i ≡ Some none_held
@@ -209,36 +221,41 @@ none_at zero i lt = absurd (omega arith)
 none_at (suc n) zero lt = refl
 none_at (suc n) (suc i) lt = none_at n i (omega arith)
 
--- no block at any number, as bodies
-pub bodies_none : (n : ℕ) → bodies_of (replicate n None) ≡ replicate n none_held
-bodies_none zero = refl
-bodies_none (suc n) = ap (λ (l : List (Option Body)). None ∷ l) (bodies_none n)
+abbrev empty_slot : Option Guard
+empty_slot = None
+
+-- no block at any number
+pub blocks_none : (places : Places) (n : ℕ) → blocks_of places (replicate n empty_slot) ≡ replicate n none_held
+blocks_none places zero = refl
+blocks_none places (suc n) = ap (λ (l : List (Option Block)). None ∷ l) (blocks_none places n)
 
 zeros_are : (texts : List Name) (ts : List Track) → replicate {A = ℕ} (length ts) 0 ≡ map (λ (t : PlainTrack). 0) (tracks_of texts ts)
 zeros_are texts [] = refl
 zeros_are texts (t ∷ ts) = ap (λ (l : List ℕ). 0 ∷ l) (zeros_are texts ts)
 
-no_sum : (f : Option Body → ℕ) → f None ≡ 0 → (n : ℕ) → sum_by f (replicate n none_held) ≡ 0
+no_sum : (f : Option Block → ℕ) → f None ≡ 0 → (n : ℕ) → sum_by f (replicate n none_held) ≡ 0
 no_sum f none zero = refl
 no_sum f none (suc n) = omega (arith, none, no_sum f none n, sum_by-cons f none_held (replicate n none_held))
 
 -- a machine at the start
-pub opening_stands : (trace : Trace) (es : List Entry) (slots : List (Option Body)) (done : List ℕ) → IsTable trace.texts → IsKnownTrace trace → es ≡ [] → slots ≡ replicate (length trace.texts) None → done ≡ replicate {A = ℕ} (length trace.tracks) 0
-    → Stands trace es slots None done false
-opening_stands trace es slots done table known empty empty_slots zeros =
-    subst (λ (x : List Entry). Stands trace x slots None done false) (sym empty) (record {
+pub opening_stands : (trace : Trace) (es : List Entry) (slots : List (Option Block)) (l : Layout) (done : List ℕ) → IsTable trace.texts → IsKnownTrace trace → es ≡ [] → slots ≡ replicate (length trace.texts) None → l ≡ empty_layout
+    → done ≡ replicate {A = ℕ} (length trace.tracks) 0 → Stands trace es (record { slots = slots; layout = l; owner = None }) done false
+opening_stands trace es slots l done table known empty empty_slots laid zeros =
+    subst (λ (x : List Entry). Stands trace x (record { slots = slots; layout = l; owner = None }) done false) (sym empty) (record {
       legal = tt;
       table = table;
       known = known;
       tracks = ap length zeros ∙ length-replicate (length trace.tracks) 0;
-      blocks_are = record {
-        size = ap length empty_slots ∙ length-replicate (length trace.texts) none_held;
-        each = λ i name is. ap (λ (l : List (Option Body)). slice_get l i) empty_slots ∙ none_at (length trace.texts) i (slice_get_within trace.texts i name is);
-        distinct = tt;
-        count = sym (ap (sum_by count_in) empty_slots ∙ no_sum count_in refl (length trace.texts));
-        bytes = sym (ap (sum_by size_in) empty_slots ∙ no_sum size_in refl (length trace.texts));
+      state = record {
+        blocks = record {
+          size = ap length empty_slots ∙ length-replicate (length trace.texts) none_held;
+          each = λ i name is. ap (λ (l : List (Option Block)). slice_get l i) empty_slots ∙ none_at (length trace.texts) i (slice_get_within trace.texts i name is);
+          distinct = tt;
+          sums = λ f none. sym (ap (sum_by f) empty_slots ∙ no_sum f none (length trace.texts));
+        };
+        layout = laid;
+        owner = refl;
       };
-      owner_is = refl;
       done_is = zeros ∙ zeros_are trace.texts trace.tracks;
       fault_is = refl;
     })
@@ -250,9 +267,9 @@ none_past trace owner t at past =
     (slice_get-map (track_of trace.texts) trace.tracks t ∙ ap (option_map (track_of trace.texts)) (slice_get_past trace.tracks t past))
 
 -- the fields tell who is ready
-pub ready_is : (trace : Trace) (es : List Entry) (slots : List (Option Body)) (owner : Option ℕ) (done : List ℕ) (faulted : Bool) → Stands trace es slots owner done faulted → (t : ℕ)
-    → may_do owner t (action_after (tracks trace) t (slice_index done t)) ≡ is_ready (tracks trace) (last_state (tracks trace) es) t
-ready_is trace es slots owner done faulted stands t = λ i. may_do (stands.owner_is i) t (action_after (tracks trace) t (slice_index (stands.done_is i) t))
+pub ready_is : (trace : Trace) (es : List Entry) (now : Standing) (done : List ℕ) (faulted : Bool) → Stands trace es now done faulted → (t : ℕ)
+    → may_do now.owner t (action_after (tracks trace) t (slice_index done t)) ≡ is_ready (tracks trace) (last_state (tracks trace) es) t
+ready_is trace es old done faulted stands t = λ i. may_do (stands.state.owner i) t (action_after (tracks trace) t (slice_index (stands.done_is i) t))
 
 pub some_weaker : {A : Type 0} (o : Option A) (P Q : A → Type 0) → ((a : A) → P a → Q a) → IfSome o P → IfSome o Q
 some_weaker None P Q f h = tt
@@ -278,8 +295,22 @@ redone xs ys zs x y pushed put =
     let shorter : length (xs ++ x ∷ []) - 1 ≡ length xs = omega (arith, length-append xs (x ∷ [])) in
     put ∙ ap (λ (l : List _). set l (length l - 1) y) pushed ∙ ap (λ (n : ℕ). set (xs ++ x ∷ []) n y) shorter ∙ set_last xs x y
 
--- all that a machine holds is out, whether the step was done or not
-pub held_after : {E : Type 0} (r : Result Step E) (trace : Trace) (es : List Entry) (held held_then : List Extent) (old new : SourceView ℕ)
-    → IfOk r (λ s. Requests trace es s.entry held held_then old new) → OnErr r (Fails held old new) → OnErr r (held_then ≡ held) → AllIn held_then new.out
-held_after (Ok s) trace es held held_then old new asked failed same = asked.traded.held
-held_after (Err e) trace es held held_then old new asked failed same = subst (λ (h : List Extent). AllIn h new.out) (sym same) failed.traded.held
+-- ---- there are few events
+
+op_counts : (texts : List Name) (ts : List Track) → action_count (tracks_of texts ts) ≡ op_count ts
+op_counts texts [] = refl
+op_counts texts (t ∷ ts) =
+    omega (arith, op_counts texts ts, sum_by-cons (λ (x : PlainTrack). length x.actions) (track_of texts t) (tracks_of texts ts), sum_by-cons (λ (x : Track). length x.ops) t ts, length-map t.ops (action_of texts))
+
+-- few enough arenas were granted and pools taken to number one more
+pub few_taken : (trace : Trace) (es : List Entry) (now : Standing) (done : List ℕ) (faulted : Bool) (d : DomainsView) → Stands trace es now done faulted → d.heap.layout ≡ now.layout → FewTaken d
+few_taken trace es old done faulted d stands is =
+    let few = few_taken_in (tracks trace) es in
+    let short = legal_short (tracks trace) es stands.legal in
+    let laid : d.heap.layout ≡ (last_state (tracks trace) es).layout = is ∙ stands.state.layout in
+    let given : d.heap.layout.given ≡ (last_state (tracks trace) es).layout.given = ap (λ (l : Layout). l.given) laid in
+    let full : length d.heap.layout.full ≡ length (last_state (tracks trace) es).layout.full = ap (λ (l : Layout). length l.full) laid in
+    record {
+      arenas = omega (arith, few.0, short, given, op_counts trace.texts trace.tracks, stands.known.count);
+      pools = omega (arith, few.1, short, full, op_counts trace.texts trace.tracks, stands.known.count);
+    }

@@ -1,7 +1,7 @@
 -- The memory of the blocks in slots, as a block comes or goes.
-use Rattle.std.proofs.Common.{◌≡◌, ℕ, zero, suc, ◌+◌, ◌<◌, ◌≤◌, List, [], ◌∷◌, ◌++◌, length, get_or, set, replicate, Option, Some, None, refl, sym, ap, subst, ◌∙◌, arith, inl, inr, length-append, true≢false}
+use Rattle.std.proofs.Common.{◌≡◌, ℕ, zero, suc, ◌+◌, ◌<◌, ◌≤◌, Bool, cond, List, [], ◌∷◌, ◌++◌, length, get_or, set, replicate, Option, Some, None, refl, sym, ap, subst, ◌∙◌, arith, inl, inr, length-append, true≢false}
 use Rattle.std.specs.Option.{option_map}
-use Rattle.std.specs.Prelude.{◌%◌, IfSome, IfNone, IsSome}
+use Rattle.std.specs.Prelude.{◌%◌, ◌==◌, if◌then◌else◌, IfSome, IfNone, IsSome}
 use Rattle.std.proofs.lemmas.Bool.Decides.{eqb_tells}
 use Rattle.std.proofs.lemmas.List.{get_or-set_same, get_or-set_other, set-get_or}
 use Rattle.std.specs.Int.{to_be_bytes, w64}
@@ -9,11 +9,8 @@ use Rattle.block_model.specs.Block.{image_of, size_of}
 use Rattle.extents.specs.Extent.{Extent, AreApart, covers}
 use Rattle.extents.specs.Sums.{tally, AllIn, Has, Inserted, Removed}
 use Rattle.extents.proofs.Addresses.{all_in_fewer}
-use Rattle.extents.proofs.Lists.{all_in_more, inserted_first, inserted_under, tally_inserted}
-use Rattle.sources.specs.Holder.{AskedNothing}
-use Rattle.sources.specs.Source.{SourceView}
+use Rattle.extents.proofs.Lists.{all_in_more, inserted_first, inserted_under, tally_has, tally_inserted}
 use Rattle.debug_guard.specs.Guard.{Guard, guard_extent}
-use Rattle.raw_domains.specs.Domains.{DomainsView}
 use Rattle.machine_core.specs.Slots.{IsStored, extents_of}
 
 abbrev Slot : Type 0
@@ -65,23 +62,23 @@ length-image_of body =
     let eight : length (to_be_bytes w64 (size_of body)) ≡ 8 = refl in
     omega (arith, length-append (to_be_bytes w64 (size_of body)) body, eight)
 
-some_bytes : (g : Guard) → 1 ≤ (guard_extent g).len
+pub some_bytes : (g : Guard) → 1 ≤ (guard_extent g).len
 some_bytes g = omega (arith, length-append (image_of g.body) g.rest, length-image_of g.body)
 
 -- ---- blocks in just these regions
 
--- the block of a slot lies in one of the regions
-pub stored_has : (slots : List Slot) (raws : List Extent) (i : ℕ) (g : Guard) → IsStored slots raws → at slots i ≡ Some g → Has (guard_extent g) raws
-stored_has slots raws i g stored is = stored.lent (guard_extent g) (has_extent slots i g is)
+-- the block of a slot lies in one of the extents
+pub stored_has : (slots : List Slot) (loans : List Extent) (i : ℕ) (g : Guard) → IsStored slots loans → at slots i ≡ Some g → Has (guard_extent g) loans
+stored_has slots loans i g stored is = stored.lent (guard_extent g) (has_extent slots i g is)
 
-pub stored_more : (slots : List Slot) (raws more : List Extent) (i : ℕ) (g : Guard) → IsStored slots raws → i < length slots → at slots i ≡ None
-    → Inserted (guard_extent g) raws more → AreApart more → g.place % 16 ≡ 0 → IsStored (set slots i (Some g)) more
-stored_more slots raws more i g stored lt free added apart aligned =
+pub stored_more : (slots : List Slot) (loans more : List Extent) (i : ℕ) (g : Guard) → IsStored slots loans → i < length slots → at slots i ≡ None
+    → Inserted (guard_extent g) loans more → AreApart more → g.place % 16 ≡ 0 → IsStored (set slots i (Some g)) more
+stored_more slots loans more i g stored lt free added apart aligned =
     let e = guard_extent g in
     let mine = more_extents slots i g lt free in
     record {
-      lent = all_in_more e (extents_of slots) (extents_of (set slots i (Some g))) raws more mine added stored.lent;
-      all = λ f. omega (arith, tally_inserted f e (extents_of slots) (extents_of (set slots i (Some g))) mine, tally_inserted f e raws more added, stored.all f);
+      lent = all_in_more e (extents_of slots) (extents_of (set slots i (Some g))) loans more mine added stored.lent;
+      all = λ f. omega (arith, tally_inserted f e (extents_of slots) (extents_of (set slots i (Some g))) mine, tally_inserted f e loans more added, stored.all f);
       apart = apart;
       aligned = λ j h is. elim (eqb_tells j i) [
         | inl here ↦
@@ -92,15 +89,15 @@ stored_more slots raws more i g stored lt free added apart aligned =
       ];
     }
 
-pub stored_fewer : (slots : List Slot) (raws fewer : List Extent) (i : ℕ) (g : Guard) → IsStored slots raws → i < length slots → at slots i ≡ Some g
-    → Removed (guard_extent g) raws fewer → AreApart fewer → IsStored (set slots i None) fewer
-stored_fewer slots raws fewer i g stored lt is gone apart =
+pub stored_fewer : (slots : List Slot) (loans fewer : List Extent) (i : ℕ) (g : Guard) → IsStored slots loans → i < length slots → at slots i ≡ Some g
+    → Removed (guard_extent g) loans fewer → AreApart fewer → IsStored (set slots i None) fewer
+stored_fewer slots loans fewer i g stored lt is gone apart =
     let e = guard_extent g in
     let mine = fewer_extents slots i g is in
     let own : AreApart (extents_of slots) = λ x. omega (arith, stored.all (covers x), stored.apart x) in
     record {
-      lent = all_in_fewer e (extents_of slots) (extents_of (set slots i None)) raws fewer (some_bytes g) own mine gone stored.lent;
-      all = λ f. omega (arith, tally_inserted f e (extents_of (set slots i None)) (extents_of slots) mine, tally_inserted f e fewer raws gone, stored.all f);
+      lent = all_in_fewer e (extents_of slots) (extents_of (set slots i None)) loans fewer (some_bytes g) own mine gone stored.lent;
+      all = λ f. omega (arith, tally_inserted f e (extents_of (set slots i None)) (extents_of slots) mine, tally_inserted f e fewer loans gone, stored.all f);
       apart = apart;
       aligned = λ j h there. elim (eqb_tells j i) [
         | inl here ↦
@@ -110,11 +107,11 @@ stored_fewer slots raws fewer i g stored lt is gone apart =
       ];
     }
 
-pub stored_same : (slots : List Slot) (raws : List Extent) (i : ℕ) (g h : Guard) → IsStored slots raws → i < length slots → at slots i ≡ Some g → guard_extent h ≡ guard_extent g → IsStored (set slots i (Some h)) raws
-stored_same slots raws i g h stored lt is same =
+pub stored_same : (slots : List Slot) (loans : List Extent) (i : ℕ) (g h : Guard) → IsStored slots loans → i < length slots → at slots i ≡ Some g → guard_extent h ≡ guard_extent g → IsStored (set slots i (Some h)) loans
+stored_same slots loans i g h stored lt is same =
     let kept : extents_of (set slots i (Some h)) ≡ extents_of slots = same_extents slots i g h is same in
     record {
-      lent = subst (λ (l : List Extent). AllIn l raws) (sym kept) stored.lent;
+      lent = subst (λ (l : List Extent). AllIn l loans) (sym kept) stored.lent;
       all = λ f. ap (tally f) kept ∙ stored.all f;
       apart = stored.apart;
       aligned = λ j k there. elim (eqb_tells j i) [
@@ -127,16 +124,16 @@ stored_same slots raws i g h stored lt is same =
     }
 
 -- a slot keeps where its block lies, whether it has one or not
-pub stored_kept : (slots : List Slot) (raws : List Extent) (i : ℕ) (o : Slot) → IsStored slots raws → i < length slots → option_map guard_extent o ≡ option_map guard_extent (at slots i) → IsStored (set slots i o) raws
-stored_kept slots raws i o stored lt same = by o (at slots i) refl same
+pub stored_kept : (slots : List Slot) (loans : List Extent) (i : ℕ) (o : Slot) → IsStored slots loans → i < length slots → option_map guard_extent o ≡ option_map guard_extent (at slots i) → IsStored (set slots i o) loans
+stored_kept slots loans i o stored lt same = by o (at slots i) refl same
   where
-    by : (o p : Slot) → at slots i ≡ p → option_map guard_extent o ≡ option_map guard_extent p → IsStored (set slots i o) raws
-    by None None is same = subst (λ (l : List Slot). IsStored l raws) (sym (ap (set slots i) (sym is) ∙ set-get_or slots i None)) stored
+    by : (o p : Slot) → at slots i ≡ p → option_map guard_extent o ≡ option_map guard_extent p → IsStored (set slots i o) loans
+    by None None is same = subst (λ (l : List Slot). IsStored l loans) (sym (ap (set slots i) (sym is) ∙ set-get_or slots i None)) stored
     by None (Some g) is same = absurd cc
     by (Some h) None is same = absurd cc
     by (Some h) (Some g) is same =
         let e : guard_extent h ≡ guard_extent g = cc in
-        stored_same slots raws i g h stored lt is e
+        stored_same slots loans i g h stored lt is e
 
 -- no block at any number
 pub stored_none : (slots : List Slot) → ((i : ℕ) → at slots i ≡ None) → IsStored slots []
@@ -158,7 +155,7 @@ stored_none slots none =
     no_extents (Some g ∷ ss) none = absurd (differ g (sym (none 0)))
 
 -- no slot, no region
-pub stored_end : (raws : List Extent) → IsStored [] raws → raws ≡ []
+pub stored_end : (loans : List Extent) → IsStored [] loans → loans ≡ []
 stored_end [] stored = refl
 stored_end (e ∷ es) stored = absurd (omega (arith, stored.all (λ _. 1)))
 
@@ -183,65 +180,82 @@ at_last : (slots : List Slot) (last : Slot) → at (slots ++ last ∷ []) (lengt
 at_last [] last = refl
 at_last (s ∷ ss) last = at_last ss last
 
-pub last_has : (slots : List Slot) (g : Guard) (raws : List Extent) → IsStored (slots ++ Some g ∷ []) raws → Has (guard_extent g) raws
-last_has slots g raws stored = stored_has (slots ++ Some g ∷ []) raws (length slots) g stored (at_last slots (Some g))
+pub last_has : (slots : List Slot) (g : Guard) (loans : List Extent) → IsStored (slots ++ Some g ∷ []) loans → Has (guard_extent g) loans
+last_has slots g loans stored = stored_has (slots ++ Some g ∷ []) loans (length slots) g stored (at_last slots (Some g))
 
-pub stored_pop_some : (slots : List Slot) (g : Guard) (raws fewer : List Extent) → IsStored (slots ++ Some g ∷ []) raws → Removed (guard_extent g) raws fewer → AreApart fewer → IsStored slots fewer
-stored_pop_some slots g raws fewer stored gone apart =
+pub stored_pop_some : (slots : List Slot) (g : Guard) (loans fewer : List Extent) → IsStored (slots ++ Some g ∷ []) loans → Removed (guard_extent g) loans fewer → AreApart fewer → IsStored slots fewer
+stored_pop_some slots g loans fewer stored gone apart =
     let e = guard_extent g in
     let all = extents_of (slots ++ Some g ∷ []) in
     let mine = last_extents slots g in
     let own : AreApart all = λ x. omega (arith, stored.all (covers x), stored.apart x) in
     record {
-      lent = all_in_fewer e all (extents_of slots) raws fewer (some_bytes g) own mine gone stored.lent;
-      all = λ f. omega (arith, tally_inserted f e (extents_of slots) all mine, tally_inserted f e fewer raws gone, stored.all f);
+      lent = all_in_fewer e all (extents_of slots) loans fewer (some_bytes g) own mine gone stored.lent;
+      all = λ f. omega (arith, tally_inserted f e (extents_of slots) all mine, tally_inserted f e fewer loans gone, stored.all f);
       apart = apart;
       aligned = λ i h is. stored.aligned i h (at_front slots (Some g) i h is);
     }
 
-pub stored_pop_none : (slots : List Slot) (raws : List Extent) → IsStored (slots ++ None ∷ []) raws → IsStored slots raws
-stored_pop_none slots raws stored =
+pub stored_pop_none : (slots : List Slot) (loans : List Extent) → IsStored (slots ++ None ∷ []) loans → IsStored slots loans
+stored_pop_none slots loans stored =
     let same : extents_of (slots ++ None ∷ []) ≡ extents_of slots = last_none slots in
     record {
-      lent = subst (λ (l : List Extent). AllIn l raws) same stored.lent;
+      lent = subst (λ (l : List Extent). AllIn l loans) same stored.lent;
       all = λ f. sym (ap (tally f) same) ∙ stored.all f;
       apart = stored.apart;
       aligned = λ i h is. stored.aligned i h (at_front slots None i h is);
     }
 
--- the memory of the last slot's block is one of the regions
-pub drop_loan : (slots : List Slot) (last : Slot) (raws : List Extent) → IsStored (slots ++ last ∷ []) raws → IfSome last (λ g. Has (guard_extent g) raws)
-drop_loan slots None raws stored = tt
-drop_loan slots (Some g) raws stored = last_has slots g raws stored
+-- the memory of the last slot's block is one of the extents
+pub drop_loan : (slots : List Slot) (last : Slot) (loans : List Extent) → IsStored (slots ++ last ∷ []) loans → IfSome last (λ g. Has (guard_extent g) loans)
+drop_loan slots None loans stored = tt
+drop_loan slots (Some g) loans stored = last_has slots g loans stored
 
 -- the last slot goes, and the memory of its block
-pub drop_stored : (slots : List Slot) (last : Slot) (raws fewer : List Extent) → IsStored (slots ++ last ∷ []) raws
-    → IfSome last (λ g. Removed (guard_extent g) raws fewer) → IfNone last (fewer ≡ raws) → AreApart fewer → IsStored slots fewer
-drop_stored slots None raws fewer stored gone same apart = subst (IsStored slots) (sym same) (stored_pop_none slots raws stored)
-drop_stored slots (Some g) raws fewer stored gone same apart = stored_pop_some slots g raws fewer stored gone apart
+pub drop_stored : (slots : List Slot) (last : Slot) (loans fewer : List Extent) → IsStored (slots ++ last ∷ []) loans
+    → IfSome last (λ g. Removed (guard_extent g) loans fewer) → IfNone last (fewer ≡ loans) → AreApart fewer → IsStored slots fewer
+drop_stored slots None loans fewer stored gone same apart = subst (IsStored slots) (sym same) (stored_pop_none slots loans stored)
+drop_stored slots (Some g) loans fewer stored gone same apart = stored_pop_some slots g loans fewer stored gone apart
 
--- a store at the start
-pub stored_opening : (count : ℕ) (slots : List Slot) (domains : DomainsView) → slots ≡ replicate count None → domains ≡ record { raws = [] } → IsStored slots domains.raws
-stored_opening count slots domains empty none =
-    subst (λ (d : DomainsView). IsStored slots d.raws) (sym none)
-    (subst (λ (l : List Slot). IsStored l []) (sym empty) (stored_none (replicate count None) (none_in count)))
-  where
-    none_in : (n i : ℕ) → at (replicate n None) i ≡ None
-    none_in zero i = refl
-    none_in (suc n) zero = refl
-    none_in (suc n) (suc i) = none_in n i
+-- no block at any number
+pub none_in : (n i : ℕ) → at (replicate n None) i ≡ None
+none_in zero i = refl
+none_in (suc n) zero = refl
+none_in (suc n) (suc i) = none_in n i
 
--- no request, and again none
-pub asked_nothing_then : {S : Type 0} (a b c : SourceView S) → AskedNothing a b → AskedNothing b c → AskedNothing a c
-asked_nothing_then a b c first second = record {
-  asked = second.asked ∙ first.asked;
-  refused = second.refused ∙ first.refused;
-  plan = second.plan ∙ first.plan;
-}
-
--- once no slot is left, no region is
-pub last_left : (slots : List Slot) (o : Option Slot) (raws : List Extent) → (0 < length slots → IsSome o) → o ≡ None → IsStored slots raws → raws ≡ []
-last_left [] o raws some none stored = stored_end raws stored
-last_left (s ∷ ss) o raws some none stored =
+-- once no slot is left, no extent is
+pub last_left : (slots : List Slot) (o : Option Slot) (loans : List Extent) → (0 < length slots → IsSome o) → o ≡ None → IsStored slots loans → loans ≡ []
+last_left [] o loans some none stored = stored_end loans stored
+last_left (s ∷ ss) o loans some none stored =
     let is : IsSome {T = Slot} None = subst IsSome none (some (omega arith)) in
     absurd (true≢false (sym is))
+
+-- ---- each block has bytes
+
+-- 1 for an extent without bytes
+abbrev is_empty : Extent → ℕ
+is_empty e = if e.len == 0 then 1 else 0
+
+full : (e : Extent) → 1 ≤ e.len → is_empty e ≡ 0
+full e some = elim (eqb_tells e.len 0) [
+  | inl none ↦ absurd (omega (arith, none.1, some))
+  | inr other ↦ ap (λ (b : Bool). cond b 1 0) other.0
+]
+
+not_empty : (e : Extent) → is_empty e ≡ 0 → 1 ≤ e.len
+not_empty e is = elim (eqb_tells e.len 0) [
+  | inl none ↦ absurd (omega (arith, is, ap (λ (b : Bool). cond {A = ℕ} b 1 0) none.0))
+  | inr other ↦ by e.len other.1
+]
+  where
+    by : (n : ℕ) → (n ≡ 0 → ⊥) → 1 ≤ n
+    by zero other = absurd (other refl)
+    by (suc n) other = omega arith
+
+none_empty : (slots : List Slot) → tally is_empty (extents_of slots) ≡ 0
+none_empty [] = refl
+none_empty (None ∷ ss) = none_empty ss
+none_empty (Some g ∷ ss) = omega (arith, full (guard_extent g) (some_bytes g), none_empty ss)
+
+pub stored_long : (slots : List Slot) (loans : List Extent) (e : Extent) → IsStored slots loans → Has e loans → 1 ≤ e.len
+stored_long slots loans e stored has = not_empty e (omega (arith, tally_has is_empty e loans has, stored.all is_empty, none_empty slots))

@@ -1,27 +1,13 @@
--- What a reply says.
+-- What the calls of a domain are answered with.
 use Rattle.std.specs.Prelude.{Some, None}
 use Rattle.mem_base.specs.declared.reply.Fault.{Fault}
 use Rattle.mem_base.specs.declared.reply.Fault.TheVariants.{Unlocked}
-use Rattle.mem_base.specs.declared.reply.Reply.{Reply}
-use Rattle.mem_base.specs.declared.reply.Reply.TheVariants as replies
 use Rattle.block_model.specs.Block.{Body, report_of}
-use Rattle.event_model.specs.Effects.{PlainReply, ok, null, busy, absent, outside, held, not_held, bytes, fault, unlocked, unsaid}
-use Rattle.raw_domains.specs.declared.answers.Freed.{Freed}
-use Rattle.raw_domains.specs.declared.answers.Freed.TheVariants as frees
-use Rattle.raw_domains.specs.declared.answers.Got.{Got}
-use Rattle.raw_domains.specs.declared.answers.Got.TheVariants as gots
-
-abbrev pub plain_reply : Reply → PlainReply
-plain_reply replies.Ok = ok
-plain_reply replies.Null = null
-plain_reply replies.Busy = busy
-plain_reply replies.Absent = absent
-plain_reply replies.Outside = outside
-plain_reply replies.Held = held
-plain_reply replies.NotHeld = not_held
-plain_reply (replies.Bytes found) = bytes found
-plain_reply (replies.Fault found block) = fault found block
-plain_reply reply = unsaid
+use Rattle.event_model.specs.Effects.{PlainReply, ok, null, fault, unlocked}
+use Rattle.domain_api.specs.declared.answers.Freed.{Freed}
+use Rattle.domain_api.specs.declared.answers.Freed.TheVariants as frees
+use Rattle.domain_api.specs.declared.answers.Got.{Got}
+use Rattle.domain_api.specs.declared.answers.Got.TheVariants as gots
 
 -- the answer to a request that got this
 abbrev pub answer_to : Got → PlainReply

@@ -1,13 +1,13 @@
 -- Where the live blocks lie.
-use Rattle.std.specs.Prelude.{◌≡◌, ℕ, ◌+◌, ◌%◌, ◌<◌, ◌≤◌, ◌==◌, nat_le, if◌then◌else◌, List, [], ◌∷◌, length, take, get_or, is_some, Option, Some, None}
+use Rattle.std.specs.Prelude.{◌≡◌, ℕ, ◌+◌, ◌%◌, ◌<◌, ◌≤◌, ◌==◌, nat_le, if◌then◌else◌, List, [], ◌∷◌, ◌++◌, length, take, get_or, is_some, Option, Some, None}
 use Rattle.mem_base.specs.declared.texts.TextId.{TextId}
 use Rattle.trace_model.specs.Plain.{text_at}
-use Rattle.block_model.specs.Block.{Body, image_of}
+use Rattle.block_model.specs.Block.{image_of}
 use Rattle.raw_region.specs.Region.{PieceView}
 use Rattle.extents.specs.Extent.{Extent, piece_extent}
 use Rattle.extents.specs.Sums.{tally, Has}
 use Rattle.debug_guard.specs.Guard.{Guard, piece_of}
-use Rattle.event_model.specs.Blocks.{find}
+use Rattle.event_model.specs.Blocks.{Block, find}
 use Rattle.machine_core.specs.View.{MachineView, state_of}
 use Rattle.machine_core.specs.declared.spot.Spot.{Spot}
 
@@ -34,11 +34,11 @@ pub record IsSpot (m : MachineView) (spot : Spot) : Type 0 where
   pub place : spot.place ≡ piece.place
   pub len : spot.len ≡ length piece.bytes
   pub aligned : spot.place % 16 ≡ 0
-  pub held : LiesInOne (piece_extent piece) m.held
-  pub block : Body
+  pub held : LiesInOne (piece_extent piece) (m.arenas ++ m.raws)
+  pub block : Block
   pub live : find (state_of m).blocks (text_at m.trace.texts spot.name) ≡ Some block
-  pub room : length block + 8 ≤ spot.len
-  pub image : take (length block + 8) piece.bytes ≡ image_of block
+  pub room : length block.body + 8 ≤ spot.len
+  pub image : take (length block.body + 8) piece.bytes ≡ image_of block.body
 
 -- 1 where the name with that number holds a block, else 0
 abbrev pub live_at : MachineView → TextId → ℕ

@@ -2,25 +2,26 @@
 use Rattle.std.specs.Prelude.{◌≡◌, ℕ, List, [], ◌∷◌, ◌++◌, Option}
 use Rattle.mem_base.specs.declared.history.Entry.{Entry}
 use Rattle.mem_base.specs.declared.reply.Step.{Step}
-use Rattle.mem_base.specs.declared.trace.Side.TheVariants as sides
+use Rattle.mem_base.specs.declared.trace.Side.{Side}
 use Rattle.mem_base.specs.declared.trace.Trace.{Trace}
 use Rattle.trace_model.specs.Plain.{PlainTrack, plain}
 use Rattle.event_model.specs.Effects.{State}
 use Rattle.event_model.specs.Events.{event, next_action}
 use Rattle.event_model.specs.History.{last_state, IsNext}
 use Rattle.event_model.specs.Plans.{GrowsBy, lists}
-use Rattle.event_model.specs.Requests.{raw_asks, raw_refusals}
+use Rattle.event_model.specs.Replies.{plain_reply}
+use Rattle.event_model.specs.Requests.{asks_in, refusals_in}
 use Rattle.raw_region.specs.Region.{PieceView}
 use Rattle.extents.specs.Extent.{Extent}
 use Rattle.sources.specs.Holder.{Answered, Traded}
 use Rattle.sources.specs.Source.{SourceView}
-use Rattle.machine_core.specs.Reply.{plain_reply}
 
--- a machine: its trace, its stored history, the regions that it holds, and by the number of its name the memory of each block
+-- a machine: its trace, its stored history, the arenas and the raw regions that it holds, and by the number of its name the memory of each block
 pub record MachineView : Type 0 where
   pub trace : Trace
   pub entries : List Entry
-  pub held : List Extent
+  pub arenas : List Extent
+  pub raws : List Extent
   pub pieces : List (Option PieceView)
 
 abbrev pub tracks_of : MachineView → List PlainTrack
@@ -37,8 +38,9 @@ pub record IsEvent (trace : Trace) (old new : List Entry) (t : ℕ) (step : Step
   pub grows : new ≡ old ++ step.entry ∷ []
   pub reply : plain_reply step.reply ≡ (event (plain trace).tracks (last_state (plain trace).tracks old) step.entry).1
 
--- what the raw source answered in the event of an entry: its counts say so, its plan grew by what the operation lists, and regions came or went
-pub record Requests (trace : Trace) (entries : List Entry) (e : Entry) (held held_then : List Extent) (old new : SourceView ℕ) : Type 0 where
-  pub answered : Answered (raw_asks e.raw) (raw_refusals e.raw) old new
-  pub plan : GrowsBy (lists sides.Raw old.asked (next_action (plain trace).tracks (last_state (plain trace).tracks entries) e.track)) old.plan new.plan
-  pub traded : Traded held held_then old new
+module _ {S : Type 0} where
+  -- what the source of a side answered in the event of an entry: its counts say so, its plan grew by what the operation lists, and regions came or went
+  pub record Requests (side : Side) (trace : Trace) (entries : List Entry) (e : Entry) (held held_then : List Extent) (old new : SourceView S) : Type 0 where
+    pub answered : Answered (asks_in side e) (refusals_in side e) old new
+    pub plan : GrowsBy (lists side old.asked (next_action (plain trace).tracks (last_state (plain trace).tracks entries) e.track)) old.plan new.plan
+    pub traded : Traded held held_then old new

@@ -35,17 +35,24 @@ impl Model for Machine {
 
     ghost use Rattle.machine_core.specs.Stands.{IsMachine};
 
-    ghost view = { λ a. record { trace = a.trace; entries = a.history.entries; held = a.store.domains.raws; pieces = pieces_of a.store.slots.items } };
+    ghost view = { λ a. record {
+      trace = a.trace;
+      entries = a.history.entries;
+      arenas = a.store.domains.heap.regions;
+      raws = a.store.domains.raws;
+      pieces = pieces_of a.store.slots.items;
+    } };
 
-    ghost invariant = { λ a. IsMachine a.trace a.history.entries a.store.slots.items a.store.domains.raws a.owner a.done.items a.faulted };
+    ghost invariant = { λ a. IsMachine a.trace a.history.entries a.store.slots.items a.store.domains a.owner a.done.items a.faulted };
 }
 
 impl Machine {
     ghost use Rattle.event_model.specs.Events.{is_ready};
     ghost use Rattle.event_model.specs.History.{IsLegal, IsDone, totals_of};
     ghost use Rattle.trace_model.specs.Known.{IsKnownTrace};
-    ghost use Rattle.extents.specs.Sums.{AllIn};
-    ghost use Rattle.sources.specs.Holder.{AskedNothing, Traded};
+    ghost use Rattle.mem_base.specs.declared.trace.Side.TheVariants as sides;
+    ghost use Rattle.sources.specs.Holder.{Traded};
+    ghost use Rattle.domain_api.specs.Held.{AreAskedNothing, AreOut};
     ghost use Rattle.machine_core.specs.Acts.{Fails};
     ghost use Rattle.machine_core.specs.Spots.{AreSpots};
     ghost use Rattle.machine_core.specs.View.{tracks_of, state_of, IsEvent, Requests};
@@ -55,7 +62,8 @@ impl Machine {
         requires { IsKnownTrace trace }
         ensures trace { IfOk result (λ m. m.trace ≡ trace) }
         ensures entries { IfOk result (λ m. m.entries ≡ []) }
-        ensures held { IfOk result (λ m. m.held ≡ []) }
+        ensures arenas { IfOk result (λ m. m.arenas ≡ []) }
+        ensures raws { IfOk result (λ m. m.raws ≡ []) }
     {
         let done = no_ops_done(alloc, trace.tracks.len())?;
         let store = Store::new(alloc, trace.texts.len())?;
@@ -112,7 +120,7 @@ impl Machine {
             owner: self.owner,
             blocks: blocks.blocks,
             bytes: blocks.bytes,
-            counts: self.store.domains.counts(),
+            counts: self.store.counts(),
             traced: 0,
             peak: 0,
         }
@@ -129,11 +137,11 @@ impl Machine {
 
     /// Gives up all blocks and hands the history back. All regions go back to their source.
     pub fn end<A: ArenaSource, R: RawSource>(self, arenas: &mut A, raws: &mut R) -> History
-        requires held { AllIn self.held (R.seen raws.old).out }
+        requires held { AreOut self.arenas self.raws (A.seen arenas.old) (R.seen raws.old) }
         ensures history { result.entries ≡ self.entries }
-        ensures nothing { AskedNothing (R.seen raws.old) (R.seen raws.new) }
-        ensures traded { Traded self.held [] (R.seen raws.old) (R.seen raws.new) }
-        ensures arenas { A.seen arenas.new ≡ A.seen arenas.old }
+        ensures nothing { AreAskedNothing (A.seen arenas.old) (A.seen arenas.new) (R.seen raws.old) (R.seen raws.new) }
+        ensures arenas { Traded self.arenas [] (A.seen arenas.old) (A.seen arenas.new) }
+        ensures raws { Traded self.raws [] (R.seen raws.old) (R.seen raws.new) }
     {
         let Machine {
             alloc: _,
@@ -175,15 +183,19 @@ impl Machine {
     ) -> Result<Step, AllocError>
         requires ready { is_ready (tracks_of self.old) (state_of self.old) t ≡ true }
         requires no_fault { (state_of self.old).faulted ≡ false }
-        requires count { (R.seen raws.old).asked < 2 ^ 63 }
-        requires held { AllIn self.old.held (R.seen raws.old).out }
+        requires arena { (A.seen arenas.old).asked < 2 ^ 63 }
+        requires raw { (R.seen raws.old).asked < 2 ^ 63 }
+        requires held { AreOut self.old.arenas self.old.raws (A.seen arenas.old) (R.seen raws.old) }
         ensures trace { self.new.trace ≡ self.old.trace }
         ensures step { IfOk result (λ step. IsEvent self.old.trace self.old.entries self.new.entries t step) }
-        ensures requests { IfOk result (λ step. Requests self.old.trace self.old.entries step.entry self.old.held self.new.held (R.seen raws.old) (R.seen raws.new)) }
+        ensures asks_arena { IfOk result (λ step. Requests sides.Arena self.old.trace self.old.entries step.entry
+            self.old.arenas self.new.arenas (A.seen arenas.old) (A.seen arenas.new)) }
+        ensures asks_raw { IfOk result (λ step. Requests sides.Raw self.old.trace self.old.entries step.entry
+            self.old.raws self.new.raws (R.seen raws.old) (R.seen raws.new)) }
         ensures err { OnErr result (self.new ≡ self.old) }
-        ensures fails { OnErr result (Fails self.old.held (R.seen raws.old) (R.seen raws.new)) }
-        ensures held { AllIn self.new.held (R.seen raws.new).out }
-        ensures arenas { A.seen arenas.new ≡ A.seen arenas.old }
+        ensures fails_arena { OnErr result (Fails self.old.arenas (A.seen arenas.old) (A.seen arenas.new)) }
+        ensures fails_raw { OnErr result (Fails self.old.raws (R.seen raws.old) (R.seen raws.new)) }
+        ensures held { AreOut self.new.arenas self.new.raws (A.seen arenas.new) (R.seen raws.new) }
     {
         step(
             self.alloc,

@@ -4,17 +4,18 @@ ghost use Rattle.trace_model.specs.Plain.{plain};
 ghost use Rattle.trace_model.specs.Known.{op_at};
 ghost use Rattle.event_model.specs.Events.{is_ready, is_fault as is_fault_reply, let_go, may_do, action_after};
 ghost use Rattle.event_model.specs.History.{last_state};
-ghost use Rattle.machine_core.specs.Reply.{plain_reply};
-ghost use Rattle.extents.specs.Sums.{AllIn};
+ghost use Rattle.event_model.specs.Replies.{plain_reply};
+ghost use Rattle.mem_base.specs.declared.trace.Side.TheVariants as sides;
+ghost use Rattle.domain_api.specs.Held.{AreHeld};
 ghost use Rattle.machine_core.specs.Acts.{Fails};
-ghost use Rattle.machine_core.specs.Slots.{bodies_of, IsStored};
+ghost use Rattle.machine_core.specs.Slots.{standing, IsStore};
 ghost use Rattle.machine_core.specs.Stands.{Stands};
 ghost use Rattle.machine_core.specs.View.{IsEvent, Requests};
 
 use crate::act::act;
 use crate::store::{Acted, NOT_ASKED, Store};
+use domain_api::Asked;
 use mem_base::{Entry, History, Op, Reply, Step, Trace, TrackId};
-use raw_domains::Asked;
 use sources::{ArenaSource, RawSource};
 use std::alloc::{AllocError, Global};
 
@@ -127,19 +128,24 @@ pub(crate) fn step<A: ArenaSource, R: RawSource>(
     arenas: &mut A,
     raws: &mut R,
 ) -> Result<Step, AllocError>
-    requires stands { Stands trace.now history.old.entries (bodies_of store.old.slots.items) owner.old done.old.items faulted.old }
-    requires stored { IsStored store.old.slots.items store.old.domains.raws }
+    requires stands { Stands trace.now history.old.entries (standing store.old.slots.items store.old.domains owner.old) done.old.items faulted.old }
+    requires stored { IsStore store.old.slots.items store.old.domains }
     requires ready { is_ready (plain trace.now).tracks (last_state (plain trace.now).tracks history.old.entries) t ≡ true }
     requires sound { faulted.old ≡ false }
-    requires count { (R.seen raws.old).asked < 2 ^ 63 }
-    requires held { AllIn store.old.domains.raws (R.seen raws.old).out }
-    ensures stands { Stands trace.now history.new.entries (bodies_of store.new.slots.items) owner.new done.new.items faulted.new }
-    ensures stored { IsStored store.new.slots.items store.new.domains.raws }
+    requires arena { (A.seen arenas.old).asked < 2 ^ 63 }
+    requires raw { (R.seen raws.old).asked < 2 ^ 63 }
+    requires held { AreHeld store.old.domains (A.seen arenas.old) (R.seen raws.old) }
+    ensures stands { Stands trace.now history.new.entries (standing store.new.slots.items store.new.domains owner.new) done.new.items faulted.new }
+    ensures stored { IsStore store.new.slots.items store.new.domains }
+    ensures held { AreHeld store.new.domains (A.seen arenas.new) (R.seen raws.new) }
     ensures step { IfOk result (λ step. IsEvent trace.now history.old.entries history.new.entries t step) }
-    ensures asks { IfOk result (λ step. Requests trace.now history.old.entries step.entry store.old.domains.raws store.new.domains.raws (R.seen raws.old) (R.seen raws.new)) }
+    ensures asks_arena { IfOk result (λ step. Requests sides.Arena trace.now history.old.entries step.entry
+        store.old.domains.heap.regions store.new.domains.heap.regions (A.seen arenas.old) (A.seen arenas.new)) }
+    ensures asks_raw { IfOk result (λ step. Requests sides.Raw trace.now history.old.entries step.entry
+        store.old.domains.raws store.new.domains.raws (R.seen raws.old) (R.seen raws.new)) }
     ensures err { OnErr result ((history.new.entries ≡ history.old.entries) × (store.new.slots.items ≡ store.old.slots.items) × (store.new.domains ≡ store.old.domains)) }
-    ensures fails { OnErr result (Fails store.old.domains.raws (R.seen raws.old) (R.seen raws.new)) }
-    ensures arenas { A.seen arenas.new ≡ A.seen arenas.old }
+    ensures fails_arena { OnErr result (Fails store.old.domains.heap.regions (A.seen arenas.old) (A.seen arenas.new)) }
+    ensures fails_raw { OnErr result (Fails store.old.domains.raws (R.seen raws.old) (R.seen raws.new)) }
 {
     let at = done[t as usize];
     let Some(op) = next_op(trace, t, at) else {

@@ -1,19 +1,23 @@
 //! The blocks, by the numbers of their names.
-ghost use Rattle.std.specs.Prelude.{◌≡◌, ◌<◌, ◌≤◌, ◌^◌, [], length, get_or, replicate, slice_set, sum_by, vec_capacity, IfOk, OnErr, IfSome, IfNone, None, Some};
+ghost use Rattle.std.specs.Prelude.{◌≡◌, ◌<◌, ◌≤◌, ◌^◌, ℕ, [], length, get_or, replicate, slice_set, sum_by, vec_capacity, IfOk, OnErr, IfSome, IfNone, None, Some};
 ghost use Rattle.std.specs.Option.{option_copied, option_map};
 ghost use Rattle.block_model.specs.Block.{IsOffset};
 ghost use Rattle.event_model.specs.Effects.{decision, freed, made, read, written};
-ghost use Rattle.event_model.specs.Requests.{malloc_asks, raw_asks, raw_refusals, was_asked};
-ghost use Rattle.extents.specs.Extent.{AreApart};
-ghost use Rattle.extents.specs.Sums.{AllIn, Has, Removed};
+ghost use Rattle.event_model.specs.Replies.{plain_reply};
+ghost use Rattle.event_model.specs.Requests.{malloc_request};
+ghost use Rattle.layout_model.specs.Asks.{FitsRequest};
+ghost use Rattle.layout_model.specs.Layout.{Layout};
 ghost use Rattle.debug_guard.specs.Guard.{guard_extent};
-ghost use Rattle.sources.specs.Holder.{Answered, AskedNothing, AskedOnce, Traded};
-ghost use Rattle.machine_core.specs.Reply.{plain_reply, answer_to, fault_answer, answer_after};
-ghost use Rattle.machine_core.specs.Slots.{bodies_of, body_at, body_in, count_in, size_in, IsStored, IsTurn, slots_with, slots_after};
+ghost use Rattle.domain_api.specs.Domains.{IsGivenUp, view_of_both};
+ghost use Rattle.domain_api.specs.Held.{AreAnswered, AreAskedNothing, AreAskedOnce, AreHeld, AreSound, AreTraded, CanAsk, HasCounts, IsLoan, SamePlans};
+ghost use Rattle.py_heap.specs.Heap.{empty_heap};
+ghost use Rattle.sources.specs.Holder.{Traded};
+ghost use Rattle.machine_core.specs.Reply.{answer_to, fault_answer, answer_after};
+ghost use Rattle.machine_core.specs.Slots.{block_at, block_in, data_in, live_in, IsStore, IsTurn, slots_with, slots_after, Places};
 
 use debug_guard::{Guarded, peek, poke, report, size};
-use mem_base::{Ask, Fault, Grant, Letter, List, Reply, TextId};
-use raw_domains::{Asked, Domains, Freed, Got, Made};
+use domain_api::{Asked, Domains, Freed, Got, Made};
+use mem_base::{Ask, Counts, Fault, Grant, Letter, List, Reply, TextId, View};
 use sources::{ArenaSource, RawSource};
 use std::alloc::{AllocError, Global};
 use std::mem;
@@ -69,8 +73,8 @@ pub(crate) struct StoreTotals {
 }
 
 pub(crate) fn totals_of(slots: &[Option<Guarded>]) -> StoreTotals
-    ensures blocks { result.blocks ≡ sum_by count_in (bodies_of slots.now) }
-    ensures bytes { result.bytes ≡ sum_by size_in (bodies_of slots.now) }
+    ensures blocks { result.blocks ≡ sum_by live_in slots.now }
+    ensures bytes { result.bytes ≡ sum_by data_in slots.now }
 {
     let mut totals = StoreTotals {
         blocks: 0,
@@ -146,8 +150,8 @@ fn put_back(slots: &mut Vec<Option<Guarded>>, name: TextId, freed: Freed) -> Rep
 // Pokes the block of a slot.
 fn poke_slot(slot: &mut Option<Guarded>, offset: &i64, bytes: &[u8]) -> Reply
     requires { IsOffset offset.now }
-    ensures block { body_in slot.new ≡ (written offset.now bytes.now (body_in slot.old)).0 }
-    ensures answer { plain_reply result ≡ (written offset.now bytes.now (body_in slot.old)).1 }
+    ensures block { (places : Places) (l : Layout) → block_in places slot.new ≡ (written offset.now bytes.now l (block_in places slot.old)).block }
+    ensures answer { (places : Places) (l : Layout) → plain_reply result ≡ (written offset.now bytes.now l (block_in places slot.old)).answer }
     ensures stays { option_map guard_extent slot.new ≡ option_map guard_extent slot.old }
 {
     let Some(block) = slot else {
@@ -168,7 +172,7 @@ fn peek_slot(
     count: u64,
 ) -> Result<Reply, AllocError>
     requires { IsOffset offset.now }
-    ensures { IfOk result (λ reply. plain_reply reply ≡ (read offset.now count (body_in (option_copied slot.entry))).1) }
+    ensures { IfOk result (λ reply. (places : Places) (l : Layout) → plain_reply reply ≡ (read offset.now count l (block_in places (option_copied slot.entry))).answer) }
 {
     let Some(block) = slot else {
         return Ok(Reply::Absent);
@@ -187,15 +191,15 @@ fn drop_slot<A: ArenaSource, R: RawSource>(
     arenas: &mut A,
     raws: &mut R,
 )
-    requires loan { IfSome slot (λ block. Has (guard_extent block) domains.old.raws) }
-    requires apart { AreApart domains.old.raws }
-    requires held { AllIn domains.old.raws (R.seen raws.old).out }
-    ensures back { IfSome slot (λ block. Removed (guard_extent block) domains.old.raws domains.new.raws) }
-    ensures none { IfNone slot (domains.new.raws ≡ domains.old.raws) }
-    ensures nothing { AskedNothing (R.seen raws.old) (R.seen raws.new) }
-    ensures traded { Traded domains.old.raws domains.new.raws (R.seen raws.old) (R.seen raws.new) }
-    ensures apart { AreApart domains.new.raws }
-    ensures arenas { A.seen arenas.new ≡ A.seen arenas.old }
+    requires loan { IfSome slot (λ block. IsLoan (guard_extent block) domains.old) }
+    requires sound { AreSound domains.old.heap domains.old.raws }
+    requires held { AreHeld domains.old (A.seen arenas.old) (R.seen raws.old) }
+    ensures back { IfSome slot (λ block. IsGivenUp block domains.old domains.new) }
+    ensures none { IfNone slot (domains.new ≡ domains.old) }
+    ensures nothing { AreAskedNothing (A.seen arenas.old) (A.seen arenas.new) (R.seen raws.old) (R.seen raws.new) }
+    ensures traded { AreTraded domains.old domains.new (A.seen arenas.old) (A.seen arenas.new) (R.seen raws.old) (R.seen raws.new) }
+    ensures held { AreHeld domains.new (A.seen arenas.new) (R.seen raws.new) }
+    ensures sound { AreSound domains.new.heap domains.new.raws }
 {
     if let Some(block) = slot {
         domains.drop_block(block, arenas, raws);
@@ -206,8 +210,8 @@ impl Store {
     /// A store with no block at any of so many numbers.
     pub(crate) fn new(alloc: Global, count: usize) -> Result<Store, AllocError>
         ensures slots { IfOk result (λ s. s.slots.items ≡ replicate count None) }
-        ensures stored { IfOk result (λ s. IsStored s.slots.items s.domains.raws) }
-        ensures raws { IfOk result (λ s. s.domains.raws ≡ []) }
+        ensures domains { IfOk result (λ s. s.domains ≡ record { heap = empty_heap; raws = [] }) }
+        ensures stored { IfOk result (λ s. IsStore s.slots.items s.domains) }
     {
         let slots = Vec::with_capacity(alloc, count)?;
         match Domains::new(alloc) {
@@ -233,19 +237,20 @@ impl Store {
         raws: &mut R,
     ) -> Result<Acted, AllocError>
         requires there { name.0 < length self.old.slots.items }
-        requires stored { IsStored self.old.slots.items self.old.domains.raws }
-        requires count { (R.seen raws.old).asked < 2 ^ 63 }
-        requires held { AllIn self.old.domains.raws (R.seen raws.old).out }
-        ensures turn { IfOk result (λ a. IsTurn name.0 (made letter size locked a.asked.raw) self.old.slots.items self.new.slots.items (plain_reply a.reply)) }
-        ensures asks { IfOk result (λ a. was_asked a.asked.raw ≡ malloc_asks (body_at self.old.slots.items name.0) (decision letter size locked)) }
-        ensures arena { IfOk result (λ a. a.asked.arena ≡ Grant.NotAsked) }
-        ensures answered { IfOk result (λ a. Answered (raw_asks a.asked.raw) (raw_refusals a.asked.raw) (R.seen raws.old) (R.seen raws.new)) }
-        ensures plan { (R.seen raws.new).plan ≡ (R.seen raws.old).plan }
+        requires stored { IsStore self.old.slots.items self.old.domains }
+        requires ask { CanAsk self.old.domains (A.seen arenas.old) (R.seen raws.old) }
+        requires held { AreHeld self.old.domains (A.seen arenas.old) (R.seen raws.old) }
+        ensures turn { IfOk result (λ a. IsTurn name.0 (made letter size locked a.asked.arena a.asked.raw)
+            self.old.slots.items self.old.domains self.new.slots.items self.new.domains (plain_reply a.reply)) }
+        ensures fits { IfOk result (λ a. FitsRequest self.old.domains.heap.layout
+            (malloc_request letter size (block_at self.old.domains.heap.places self.old.slots.items name.0) (decision letter size locked)) a.asked.arena a.asked.raw) }
+        ensures answered { IfOk result (λ a. AreAnswered a.asked (A.seen arenas.old) (A.seen arenas.new) (R.seen raws.old) (R.seen raws.new)) }
+        ensures plans { SamePlans (A.seen arenas.old) (A.seen arenas.new) (R.seen raws.old) (R.seen raws.new) }
         ensures failed { OnErr result ((self.new.slots.items ≡ self.old.slots.items) × (self.new.domains ≡ self.old.domains)) }
-        ensures once { OnErr result (AskedOnce (R.seen raws.old) (R.seen raws.new)) }
-        ensures traded { Traded self.old.domains.raws self.new.domains.raws (R.seen raws.old) (R.seen raws.new) }
-        ensures stored { IsStored self.new.slots.items self.new.domains.raws }
-        ensures arenas { A.seen arenas.new ≡ A.seen arenas.old }
+        ensures once { OnErr result (AreAskedOnce (A.seen arenas.old) (A.seen arenas.new) (R.seen raws.old) (R.seen raws.new)) }
+        ensures traded { AreTraded self.old.domains self.new.domains (A.seen arenas.old) (A.seen arenas.new) (R.seen raws.old) (R.seen raws.new) }
+        ensures held { AreHeld self.new.domains (A.seen arenas.new) (R.seen raws.new) }
+        ensures stored { IsStore self.new.slots.items self.new.domains }
     {
         if self.slots[name.0 as usize].is_some() {
             return Ok(Acted::unasked(Reply::Busy));
@@ -265,13 +270,14 @@ impl Store {
         raws: &mut R,
     ) -> Reply
         requires there { name.0 < length self.old.slots.items }
-        requires stored { IsStored self.old.slots.items self.old.domains.raws }
-        requires held { AllIn self.old.domains.raws (R.seen raws.old).out }
-        ensures turn { IsTurn name.0 (freed letter locked) self.old.slots.items self.new.slots.items (plain_reply result) }
-        ensures nothing { AskedNothing (R.seen raws.old) (R.seen raws.new) }
-        ensures traded { Traded self.old.domains.raws self.new.domains.raws (R.seen raws.old) (R.seen raws.new) }
-        ensures stored { IsStored self.new.slots.items self.new.domains.raws }
-        ensures arenas { A.seen arenas.new ≡ A.seen arenas.old }
+        requires stored { IsStore self.old.slots.items self.old.domains }
+        requires held { AreHeld self.old.domains (A.seen arenas.old) (R.seen raws.old) }
+        ensures turn { IsTurn name.0 (freed letter locked)
+            self.old.slots.items self.old.domains self.new.slots.items self.new.domains (plain_reply result) }
+        ensures nothing { AreAskedNothing (A.seen arenas.old) (A.seen arenas.new) (R.seen raws.old) (R.seen raws.new) }
+        ensures traded { AreTraded self.old.domains self.new.domains (A.seen arenas.old) (A.seen arenas.new) (R.seen raws.old) (R.seen raws.new) }
+        ensures held { AreHeld self.new.domains (A.seen arenas.new) (R.seen raws.new) }
+        ensures stored { IsStore self.new.slots.items self.new.domains }
     {
         match self.slots[name.0 as usize].take() {
             Some(block) => {
@@ -288,11 +294,12 @@ impl Store {
     /// Writes bytes at an offset from the data of a name's block.
     pub(crate) fn poke(&mut self, name: TextId, offset: &i64, bytes: &[u8]) -> Reply
         requires there { name.0 < length self.old.slots.items }
-        requires stored { IsStored self.old.slots.items self.old.domains.raws }
+        requires stored { IsStore self.old.slots.items self.old.domains }
         requires offset { IsOffset offset.now }
-        ensures turn { IsTurn name.0 (written offset.now bytes.now) self.old.slots.items self.new.slots.items (plain_reply result) }
+        ensures turn { IsTurn name.0 (written offset.now bytes.now)
+            self.old.slots.items self.old.domains self.new.slots.items self.new.domains (plain_reply result) }
         ensures same { self.new.domains ≡ self.old.domains }
-        ensures stored { IsStored self.new.slots.items self.new.domains.raws }
+        ensures stored { IsStore self.new.slots.items self.new.domains }
     {
         poke_slot(&mut self.slots[name.0 as usize], offset, bytes)
     }
@@ -307,18 +314,33 @@ impl Store {
     ) -> Result<Reply, AllocError>
         requires there { name.0 < length self.now.slots.items }
         requires offset { IsOffset offset.now }
-        ensures { IfOk result (λ reply. IsTurn name.0 (read offset.now count) self.now.slots.items self.now.slots.items (plain_reply reply)) }
+        ensures { IfOk result (λ reply. IsTurn name.0 (read offset.now count)
+            self.now.slots.items self.now.domains self.now.slots.items self.now.domains (plain_reply reply)) }
     {
         peek_slot(alloc, self.slots[name.0 as usize].as_ref(), offset, count)
     }
 
+    /// The heap's shape, and how many blocks are raw regions.
+    pub(crate) fn view(&self) -> Result<View, AllocError>
+        ensures { IfOk result (λ view. view ≡ view_of_both self.now.domains) }
+    {
+        self.domains.view()
+    }
+
+    /// How many arenas there were and are, and how many blocks lie in them.
+    pub(crate) fn counts(&self) -> Counts
+        ensures { HasCounts self.now.domains result }
+    {
+        self.domains.counts()
+    }
+
     /// Gives up all blocks.
     pub(crate) fn end<A: ArenaSource, R: RawSource>(self, arenas: &mut A, raws: &mut R)
-        requires stored { IsStored self.slots.items self.domains.raws }
-        requires held { AllIn self.domains.raws (R.seen raws.old).out }
-        ensures nothing { AskedNothing (R.seen raws.old) (R.seen raws.new) }
-        ensures traded { Traded self.domains.raws [] (R.seen raws.old) (R.seen raws.new) }
-        ensures arenas { A.seen arenas.new ≡ A.seen arenas.old }
+        requires stored { IsStore self.slots.items self.domains }
+        requires held { AreHeld self.domains (A.seen arenas.old) (R.seen raws.old) }
+        ensures nothing { AreAskedNothing (A.seen arenas.old) (A.seen arenas.new) (R.seen raws.old) (R.seen raws.new) }
+        ensures arenas { Traded self.domains.heap.regions [] (A.seen arenas.old) (A.seen arenas.new) }
+        ensures raws { Traded self.domains.raws [] (R.seen raws.old) (R.seen raws.new) }
     {
         let Store {
             mut slots,

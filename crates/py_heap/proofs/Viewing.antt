@@ -25,7 +25,7 @@ use Rattle.arena_set.specs.Arena.{ArenaView}
 use Rattle.arena_set.specs.Set.{SetView, usable_line, usable_of}
 use Rattle.arena_set.specs.Calls.{IsStarted, HasStarted}
 use Rattle.py_heap.specs.Kept.{State, spot, spots_of, lines_of, heap_of, class_at, full_in, IsKeptState}
-use Rattle.py_heap.specs.View.{arena_line, used_pool, is_full, class_line, has_a_pool}
+use Rattle.layout_model.specs.View.{arena_line, used_pool, is_full, class_line, has_a_pool}
 use Rattle.py_heap.proofs.Search.{has-reverse}
 use Rattle.py_heap.proofs.Arenas.{line_at, line_there, started_there}
 use Rattle.py_heap.proofs.Lending.{lists_at}

@@ -4,14 +4,14 @@ use Rattle.mem_base.specs.declared.history.Grant.{Grant}
 use Rattle.mem_base.specs.declared.history.Grant.TheVariants.{NotAsked, Refused, Granted}
 use Rattle.raw_region.specs.Region.{PieceView}
 use Rattle.extents.specs.Sums.{Has, Inserted, Removed}
-use Rattle.extents.specs.Extent.{Extent, piece_extent, LiesIn, MeetsNone}
+use Rattle.extents.specs.Extent.{Extent, piece_extent, LiesIn, MeetsNone, AreApart}
 use Rattle.sources.specs.Source.{SourceView, ArenaShape}
 use Rattle.layout_model.specs.Sizes.{size_of_class}
 use Rattle.layout_model.specs.Layout.{Layout, empty_layout}
 use Rattle.layout_model.specs.Place.{place}
 use Rattle.layout_model.specs.Unplace.{unplace}
 use Rattle.layout_model.specs.Asks.{FitsClass}
-use Rattle.layout_model.specs.Sound.{pool_times, full_times}
+use Rattle.layout_model.specs.Sound.{IsSound, pool_times, full_times}
 use Rattle.heap_view.specs.Ground.{total_at}
 use Rattle.heap_view.specs.Laws.{place_times}
 
@@ -51,6 +51,22 @@ pub record PoolInRegion (p : ℕ) (region : Extent) : Type 0 where
 -- the extent lies in the 16,384 bytes from the place on
 abbrev pub InPool : Extent → ℕ → Type 0
 InPool e p = (p ≤ e.place) × (e.place + e.len ≤ p + 16384)
+
+-- the address is one of the 16,384 from the place on
+abbrev pub PoolHas : ℕ → ℕ → Type 0
+PoolHas p x = (p ≤ x) × (x < p + 16384)
+
+-- no address is in two pools
+abbrev pub PoolsAreApart : List (Option ℕ) → Type 0
+PoolsAreApart places = (x j k p q : ℕ) → get_or places j None ≡ Some p → get_or places k None ≡ Some q → PoolHas p x → PoolHas q x → j ≡ k
+
+-- each pool lies in one of the regions
+abbrev pub PoolsAreWithin : List (Option ℕ) → List Extent → Type 0
+PoolsAreWithin places regions = (k p : ℕ) → get_or places k None ≡ Some p → (r : Extent) × (Has r regions × PoolInRegion p r)
+
+-- each loan lies in one of the pools
+abbrev pub LoansAreInPools : List Extent → List (Option ℕ) → Type 0
+LoansAreInPools loans places = (e : Extent) → Has e loans → (k : ℕ) × (p : ℕ) × ((get_or places k None ≡ Some p) × InPool e p)
 
 -- ---- what the arena source was asked, and answered
 
@@ -132,3 +148,17 @@ pub record IsFreed (piece : PieceView) (old new : HeapView) : Type 0 where
   pub others : OthersStay pool old.places new.places
   pub regions : RegionsBack old new
   pub back : Removed (piece_extent piece) old.loans new.loans
+
+-- ---- what always holds
+
+-- what is true of every heap, as its callers see it
+pub record IsHeap (h : HeapView) : Type 0 where
+  pub apart : AreApart h.loans
+  pub arenas_apart : AreApart h.regions
+  pub within : AreWithin h.loans h.regions
+  pub sound : IsSound h.layout
+  pub places : ArePlaced h.layout h.places
+  pub pools_apart : PoolsAreApart h.places
+  pub pools_within : PoolsAreWithin h.places h.regions
+  pub loans_in_pools : LoansAreInPools h.loans h.places
+  pub out : length h.regions + h.layout.back ≡ h.layout.given

@@ -1,5 +1,5 @@
 -- What the ways in which a run may end tell of its status.
-use Rattle.std.proofs.Common.{◌≡◌, ℕ, ◌⊎◌, inl, inr, List, [], Option, Some, None, Result, Ok, Err, refl, sym, ap, ◌∙◌, arith, ◌<◌, ◌≤◌, length, Bool, true, false, cond, length-append, true≢false}
+use Rattle.std.proofs.Common.{◌≡◌, ℕ, ◌⊎◌, inl, inr, List, [], Option, Some, None, Result, Ok, Err, refl, sym, ap, subst, ◌∙◌, arith, ◌<◌, ◌≤◌, length, Bool, true, false, cond, length-append, true≢false}
 use Rattle.std.specs.Prelude.{IfSome}
 use Rattle.std.specs.Io.KnownBytes.{Keeps}
 use Rattle.streams.specs.Faults.{Rose}
@@ -18,8 +18,7 @@ use Rattle.replay_tool.specs.declared.refusal.Refusal.TheVariants.{Usage, Refuse
 use Rattle.replay_tool.specs.Words.{AsksReplay}
 use Rattle.replay_tool.specs.Events.{Ending, whole, cut, ran_out}
 use Rattle.replay_tool.specs.Refusals.{status_of, max_input, IsInputCause, IsCause}
-use Rattle.sources.specs.Source.{ArenaShape, SourceView}
-use Rattle.replay_tool.specs.Served.{arenas_shaped, raw_shaped}
+use Rattle.replay_tool.specs.Served.{NothingOut, Sources, shaped}
 use Rattle.replay_tool.specs.Ended.{Run, Ran, Told, DidNothing, LeftAlone, Ended, ran, told, untold, never_began, Refusing, told_it, failed, ran_short}
 use Rattle.replay_tool.specs.Outcome.{Cause, IsReplayed, IsTold, IsRefusal, IsCutOff, IsUntold, IsBrokenOff, IsOrYields, RefusesFaulty, RefusesTooMany, ReplaysSpelt}
 
@@ -82,10 +81,10 @@ fell : (b : Bool) → 1 ≡ zero_or_one b → b ≡ true
 fell true h = refl
 fell false h = absurd (omega arith)
 
-pub replayed_is : (r : Run) → Ended r → r.status ≤ 1 → IsReplayed r.words r.left r.left_then r.out r.out_then r.entries r.status r.raw r.raw_then
+pub replayed_is : (r : Run) → Ended r → r.status ≤ 1 → IsReplayed r.words r.left r.left_then r.out r.out_then r.entries r.status r.seen r.seen_then
 replayed_is r (ran x) h = by x.ending
   where
-    by : Ending x.trace.tracks r.entries r.out r.out_then r.out_faults r.out_faults_then r.status (raw_shaped r.raw) r.raw_then → IsReplayed r.words r.left r.left_then r.out r.out_then r.entries r.status r.raw r.raw_then
+    by : Ending x.trace.tracks r.entries r.out r.out_then r.out_faults r.out_faults_then r.status (shaped r.seen) r.seen_then → IsReplayed r.words r.left r.left_then r.out r.out_then r.entries r.status r.seen r.seen_then
     by (whole st run served) = record {
       trace = x.trace;
       accepted = x.accepted;
@@ -115,7 +114,7 @@ record ToldAt (r : Run) (n : ℕ) : Type 0 where
 told_at : (r : Run) (n : ℕ) → Ended r → r.status ≡ n → 2 ≤ n → (n ≡ 5 → ⊥) → (n ≡ 6 → ⊥) → ToldAt r n
 told_at r n (ran x) is least five six = by x.ending
   where
-    by : Ending x.trace.tracks r.entries r.out r.out_then r.out_faults r.out_faults_then r.status (raw_shaped r.raw) r.raw_then → ToldAt r n
+    by : Ending x.trace.tracks r.entries r.out r.out_then r.out_faults r.out_faults_then r.status (shaped r.seen) r.seen_then → ToldAt r n
     by (whole st run served) = absurd (omega (arith, is, least, at_most_one (last_state x.trace.tracks r.entries) r.status st))
     by (cut st rose was served) = absurd (five (sym is ∙ st))
     by (ran_out st was served) = absurd (six (sym is ∙ st))
@@ -169,37 +168,37 @@ pub nothing_is : (r : Run) → Ended r → IsRefusal r.status → DidNothing r.o
 nothing_is r e h = let n = refusal_range r.status h in (told_at r r.status e refl n.0 n.1 n.2).was.nothing
 
 pub write_fault_is : (r : Run) → Ended r → r.status ≡ 5
-    → (Rose r.out_faults r.out_faults_then × Keeps r.err r.err_then × IsCutOff r.words r.left r.left_then r.out r.out_then r.entries r.raw r.raw_then)
-    ⊎ (Rose r.err_faults r.err_faults_then × DidNothing r.out r.out_then r.entries × IsUntold r.words r.left r.left_then r.read_faults r.read_faults_then r.err r.err_then)
+    → (Rose r.out_faults r.out_faults_then × Keeps r.err r.err_then × IsCutOff r.words r.left r.left_then r.out r.out_then r.entries r.seen r.seen_then)
+    ⊎ (Rose r.err_faults r.err_faults_then × DidNothing r.out r.out_then r.entries × LeftAlone r × IsUntold r.words r.left r.left_then r.read_faults r.read_faults_then r.err r.err_then)
 write_fault_is r (ran x) is = by x.ending
   where
-    by : Ending x.trace.tracks r.entries r.out r.out_then r.out_faults r.out_faults_then r.status (raw_shaped r.raw) r.raw_then
-        → (Rose r.out_faults r.out_faults_then × Keeps r.err r.err_then × IsCutOff r.words r.left r.left_then r.out r.out_then r.entries r.raw r.raw_then)
-        ⊎ (Rose r.err_faults r.err_faults_then × DidNothing r.out r.out_then r.entries × IsUntold r.words r.left r.left_then r.read_faults r.read_faults_then r.err r.err_then)
+    by : Ending x.trace.tracks r.entries r.out r.out_then r.out_faults r.out_faults_then r.status (shaped r.seen) r.seen_then
+        → (Rose r.out_faults r.out_faults_then × Keeps r.err r.err_then × IsCutOff r.words r.left r.left_then r.out r.out_then r.entries r.seen r.seen_then)
+        ⊎ (Rose r.err_faults r.err_faults_then × DidNothing r.out r.out_then r.entries × LeftAlone r × IsUntold r.words r.left r.left_then r.read_faults r.read_faults_then r.err r.err_then)
     by (whole st run served) = absurd (omega (arith, is, at_most_one (last_state x.trace.tracks r.entries) r.status st))
     by (cut st rose was served) = inl (rose, x.quiet, record { trace = x.trace; accepted = x.accepted; run = was; served = served })
     by (ran_out st was served) = absurd (omega (arith, is, st))
 write_fault_is r (told refusal st t) is = absurd ((status_no_fault refusal).0 (sym st ∙ is))
-write_fault_is r (untold refusal st u) is = inr (u.rose, u.nothing, record { refusal = refusal; cause = u.cause; front = u.front })
+write_fault_is r (untold refusal st u) is = inr (u.rose, u.nothing, u.alone, record { refusal = refusal; cause = u.cause; front = u.front })
 write_fault_is r (never_began st t) is = absurd (omega (arith, is, st))
 
 pub no_memory_is : (r : Run) → Ended r → r.status ≡ 6
-    → AsksReplay r.words × Keeps r.err r.err_then × (DidNothing r.out r.out_then r.entries ⊎ IsBrokenOff r.words r.left r.left_then r.out r.out_then r.entries r.raw r.raw_then)
+    → AsksReplay r.words × Keeps r.err r.err_then × ((DidNothing r.out r.out_then r.entries × LeftAlone r) ⊎ IsBrokenOff r.words r.left r.left_then r.out r.out_then r.entries r.seen r.seen_then)
 no_memory_is r (ran x) is = by x.ending
   where
-    by : Ending x.trace.tracks r.entries r.out r.out_then r.out_faults r.out_faults_then r.status (raw_shaped r.raw) r.raw_then
-        → AsksReplay r.words × Keeps r.err r.err_then × (DidNothing r.out r.out_then r.entries ⊎ IsBrokenOff r.words r.left r.left_then r.out r.out_then r.entries r.raw r.raw_then)
+    by : Ending x.trace.tracks r.entries r.out r.out_then r.out_faults r.out_faults_then r.status (shaped r.seen) r.seen_then
+        → AsksReplay r.words × Keeps r.err r.err_then × ((DidNothing r.out r.out_then r.entries × LeftAlone r) ⊎ IsBrokenOff r.words r.left r.left_then r.out r.out_then r.entries r.seen r.seen_then)
     by (whole st run served) = absurd (omega (arith, is, at_most_one (last_state x.trace.tracks r.entries) r.status st))
     by (cut st rose was served) = absurd (omega (arith, is, st))
     by (ran_out st was served) = (x.accepted.asked, x.quiet, inr (record { trace = x.trace; accepted = x.accepted; run = was; served = served }))
 no_memory_is r (told refusal st t) is = absurd ((status_no_fault refusal).1 (sym st ∙ is))
 no_memory_is r (untold refusal st u) is = absurd (omega (arith, is, st))
-no_memory_is r (never_began st t) is = (t.asked, t.quiet, inl t.nothing)
+no_memory_is r (never_began st t) is = (t.asked, t.quiet, inl (t.nothing, t.alone))
 
 pub known_is : (r : Run) → Ended r → r.status ≤ 7
 known_is r (ran x) = by x.ending
   where
-    by : Ending x.trace.tracks r.entries r.out r.out_then r.out_faults r.out_faults_then r.status (raw_shaped r.raw) r.raw_then → r.status ≤ 7
+    by : Ending x.trace.tracks r.entries r.out r.out_then r.out_faults r.out_faults_then r.status (shaped r.seen) r.seen_then → r.status ≤ 7
     by (whole st run served) = omega (arith, at_most_one (last_state x.trace.tracks r.entries) r.status st)
     by (cut st rose was served) = omega (arith, st)
     by (ran_out st was served) = omega (arith, st)
@@ -209,34 +208,15 @@ known_is r (never_began st t) = omega (arith, st)
 
 -- ---- the sources
 
-pub alone_is : (r : Run) → Ended r → IsRefusal r.status → (r.arenas_then ≡ r.arenas) × (r.raw_then ≡ r.raw)
-alone_is r e h = let n = refusal_range r.status h in let a = (told_at r r.status e refl n.0 n.1 n.2).was.alone in (a.arenas_same, a.raw_same)
+pub alone_is : (r : Run) → Ended r → IsRefusal r.status → LeftAlone r
+alone_is r e h = let n = refusal_range r.status h in (told_at r r.status e refl n.0 n.1 n.2).was.alone
 
-pub idle_is : (r : Run) → Ended r → (r.arenas_then ≡ r.arenas) ⊎ (r.arenas_then ≡ arenas_shaped r.arenas)
-idle_is r (ran x) = inr x.idle
-idle_is r (told refusal st t) = inl t.alone.arenas_same
-idle_is r (untold refusal st u) = inl u.alone.arenas_same
-idle_is r (never_began st t) = inl t.alone.arenas_same
-
-pub shaped_is : (r : Run) → Ended r → r.status ≤ 1 → r.arenas_then ≡ arenas_shaped r.arenas
-shaped_is r (ran x) h = x.idle
-shaped_is r (told refusal st t) h = absurd (omega (arith, st, h, status_least refusal))
-shaped_is r (untold refusal st t) h = absurd (omega (arith, st, h))
-shaped_is r (never_began st t) h = absurd (omega (arith, st, h))
-
--- nothing is out of the arena source, which is asked for nothing, and nothing of the raw source
-pub back_is : (r : Run) → Ended r → r.arenas.out ≡ [] → r.raw.out ≡ [] → (r.arenas_then.out ≡ []) × (r.raw_then.out ≡ [])
-back_is r e none none_raw = (arenas_back (idle_is r e), raw_back e)
-  where
-    arenas_back : (r.arenas_then ≡ r.arenas) ⊎ (r.arenas_then ≡ arenas_shaped r.arenas) → r.arenas_then.out ≡ []
-    arenas_back (inl same) = ap (λ (s : SourceView ArenaShape). s.out) same ∙ none
-    arenas_back (inr shaped) = ap (λ (s : SourceView ArenaShape). s.out) shaped ∙ none
-
-    raw_back : Ended r → r.raw_then.out ≡ []
-    raw_back (ran x) = x.back
-    raw_back (told refusal st t) = ap (λ (s : SourceView ℕ). s.out) t.alone.raw_same ∙ none_raw
-    raw_back (untold refusal st u) = ap (λ (s : SourceView ℕ). s.out) u.alone.raw_same ∙ none_raw
-    raw_back (never_began st t) = ap (λ (s : SourceView ℕ). s.out) t.alone.raw_same ∙ none_raw
+-- nothing is out at the end where nothing was at the start
+pub back_is : (r : Run) → Ended r → NothingOut r.seen → NothingOut r.seen_then
+back_is r (ran x) none = x.back
+back_is r (told refusal st t) none = subst NothingOut (sym t.alone) none
+back_is r (untold refusal st u) none = subst NothingOut (sym u.alone) none
+back_is r (never_began st t) none = subst NothingOut (sym t.alone) none
 
 -- ---- where a refusal must come, and where a replay must
 
@@ -257,9 +237,6 @@ at_some None bytes P is h = absurd cc
 at_some (Some xs) bytes P is h =
     let same : xs ≡ bytes = cc in
     subst P same h
-  where
-    subst : (P : List ℕ → Type 0) → {a b : List ℕ} → a ≡ b → P a → P b
-    subst P e p = rw (← e) p
 
 not_past : (o new : Option (List ℕ)) (bytes : List ℕ) (max : ℕ) → o ≡ Some bytes → GavePast o new max → length bytes ≤ max → ⊥
 not_past None new bytes max is past few = absurd cc
@@ -322,7 +299,7 @@ module _ (r : Run) (e : Ended r) (asks : AsksReplay r.words) where
     pub complete_is : (Rose r.out_faults r.out_faults_then → ⊥) → (Rose r.err_faults r.err_faults_then → ⊥) → ReplaysSpelt r.left r.status
     complete_is writes tells = by r.left refl
       where
-        ends : (x : Ran r) → Ending x.trace.tracks r.entries r.out r.out_then r.out_faults r.out_faults_then r.status (raw_shaped r.raw) r.raw_then → (r.status ≡ 0) ⊎ (r.status ≡ 1) ⊎ (r.status ≡ 6)
+        ends : (x : Ran r) → Ending x.trace.tracks r.entries r.out r.out_then r.out_faults r.out_faults_then r.status (shaped r.seen) r.seen_then → (r.status ≡ 0) ⊎ (r.status ≡ 1) ⊎ (r.status ≡ 6)
         ends x (whole st run served) = elim (in_two (last_state x.trace.tracks r.entries) r.status st) [ inl z ↦ inl z | inr o ↦ inr (inl o) ]
         ends x (cut st rose was served) = absurd (writes rose)
         ends x (ran_out st was served) = inr (inr st)

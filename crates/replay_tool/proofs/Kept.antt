@@ -1,6 +1,6 @@
 -- What a replay keeps from event to event.
 use Rattle.std.proofs.Common.{◌≡◌, inl, inr, ℕ, ◌+◌, ◌<◌, List, [], ◌∷◌, ◌++◌, length, refl, sym, ap, subst, ◌∙◌, append-nil, arith, rules, slice_get, Option, Some, None, true, Result, Ok, Err, ◌≤◌}
-use Rattle.std.specs.Prelude.{IsSome, OnErr}
+use Rattle.std.specs.Prelude.{IsSome, OnErr, OnOk}
 use Rattle.std.specs.Option.{option_map, option_and_then}
 use Rattle.std.specs.Io.KnownBytes.{Appends, Keeps}
 use Rattle.std.proofs.KnownBytes.{Appends-nil, Appends-trans}
@@ -21,16 +21,15 @@ use Rattle.event_model.proofs.HistoryLaws.{legal_push}
 use Rattle.event_model.proofs.LeftLaws.{leaves_less}
 use Rattle.report_model.specs.Report.{lines_for, event_lines, events_text}
 use Rattle.report_model.proofs.ReportLaws.{one_more}
-use Rattle.extents.specs.Sums.{AllIn}
-use Rattle.sources.specs.Holder.{Traded}
-use Rattle.sources.specs.Source.{SourceView}
+use Rattle.domain_api.specs.Held.{AreOut}
 use Rattle.sources.proofs.Holders.{traded_nothing, traded_then}
 use Rattle.machine_core.specs.View.{MachineView, tracks_of, state_of, IsEvent}
 use Rattle.machine_core.proofs.StepLemmas.{action_is}
 use Rattle.replay_tool.specs.declared.events.Halt.{Halt}
 use Rattle.replay_tool.specs.declared.events.Halt.TheVariants.{WriteFault, OutOfMemory}
-use Rattle.replay_tool.specs.Events.{step_text, text_from, OneMore, Stopped, WasCut, RanOut}
-use Rattle.replay_tool.specs.Served.{Served, ServedNearly}
+use Rattle.report_text.specs.Texts.{step_text}
+use Rattle.replay_tool.specs.Events.{text_from, OneMore, Stopped, TradedBoth, WasCut, RanOut}
+use Rattle.replay_tool.specs.Served.{Served, ServedNearly, Sources}
 use Rattle.replay_tool.proofs.ServedLaws.{served_none, served_more, served_nearly, served_failed}
 
 -- what a result that is this error ensures
@@ -43,18 +42,6 @@ pub rose_later : (before now after : ℕ) → before ≤ now → Rose now after 
 rose_later before now after first then = omega (arith, first, then)
 
 -- ---- the text of a step
-
--- the lines of an operation are those of its entry
-pub step_lines : (trace : Trace) (number t at : ℕ) (track : Track) (op : Op) (reply : PlainReply) → slice_get trace.tracks t ≡ Some track → slice_get track.ops at ≡ Some op
-    → event_lines number (text_at trace.texts track.name) (action_of trace.texts op) reply ≡ lines_for number (slice_get (plain trace).tracks t) (action_after (plain trace).tracks t at) reply
-step_lines trace number t at track op reply there is =
-    let named : slice_get (plain trace).tracks t ≡ Some (track_of trace.texts track) = slice_get-map (track_of trace.texts) trace.tracks t ∙ ap (option_map (track_of trace.texts)) there in
-    let found : op_at trace.tracks t at ≡ Some op = ap (option_and_then (λ track. slice_get track.ops at)) there ∙ is in
-    let does : action_after (plain trace).tracks t at ≡ Some (action_of trace.texts op) = action_is trace.texts trace.tracks t at ∙ ap (option_map (action_of trace.texts)) found in
-    sym (λ i. lines_for number (named i) (does i) reply)
-
-pub op_is : (ts : List Track) (t at : ℕ) (track : Track) (op : Op) → slice_get ts t ≡ Some track → slice_get track.ops at ≡ Some op → op_at ts t at ≡ Some op
-op_is ts t at track op there is = ap (option_and_then (λ track. slice_get track.ops at)) there ∙ is
 
 -- an operation that a ready track does next is in the code's trace
 some_op : (trace : Trace) (owner : Option ℕ) (t at : ℕ) → may_do owner t (action_after (plain trace).tracks t at) ≡ true → IsSome (op_at trace.tracks t at)
@@ -76,25 +63,38 @@ step_text_is t old new step is =
 
 -- ---- from event to event
 
--- what was written so far is the texts of the events so far, and the source answered their requests
-pub record Going (first m : MachineView) (before now : Option (List ℕ)) (raw raw_now : SourceView ℕ) : Type 0 where
+-- what was written so far is the texts of the events so far, and the sources answered their requests
+pub record Going (first m : MachineView) (before now : Option (List ℕ)) (seen seen_now : Sources) : Type 0 where
   pub same : m.trace ≡ first.trace
   pub legal : IsLegal (tracks_of m) m.entries
   pub written : Appends before now (events_text (tracks_of m) m.entries)
-  pub served : Served (tracks_of m) m.entries raw raw_now
-  pub traded : Traded first.held m.held raw raw_now
+  pub served : Served (tracks_of m) m.entries seen seen_now
+  pub traded : TradedBoth first m seen seen_now
 
-pub going_at_start : (m : MachineView) (before : Option (List ℕ)) (raw : SourceView ℕ) → m.entries ≡ [] → AllIn m.held raw.out → Going m m before before raw raw
-going_at_start m before raw none held = record {
+pub going_at_start : (m : MachineView) (before : Option (List ℕ)) (seen : Sources) → m.entries ≡ [] → AreOut m.arenas m.raws seen.arenas seen.raw → Going m m before before seen seen
+going_at_start m before seen none held = record {
   same = refl;
   legal = subst (IsLegal (tracks_of m)) (sym none) tt;
   written = subst (λ (es : List Entry). Appends before before (events_text (tracks_of m) es)) (sym none) (Appends-nil before);
-  served = subst (λ (es : List Entry). Served (tracks_of m) es raw raw) (sym none) (served_none (tracks_of m) raw);
-  traded = traded_nothing m.held m.held raw raw held refl refl refl refl;
+  served = subst (λ (es : List Entry). Served (tracks_of m) es seen seen) (sym none) (served_none (tracks_of m) seen);
+  traded = record {
+    arenas = traded_nothing m.arenas m.arenas seen.arenas seen.arenas held.arenas_out refl refl refl refl;
+    raws = traded_nothing m.raws m.raws seen.raw seen.raw held.raws_out refl refl refl refl;
+  };
+}
+
+-- regions were traded, and then again
+traded_on : (a b c : MachineView) (x y z : Sources) → TradedBoth a b x y → TradedBoth b c y z → TradedBoth a c x z
+traded_on a b c x y z first second = record {
+  arenas = traded_then a.arenas b.arenas c.arenas x.arenas y.arenas z.arenas first.arenas second.arenas;
+  raws = traded_then a.raws b.raws c.raws x.raw y.raw z.raw first.raws second.raws;
 }
 
 -- a machine with one more event: its trace, that its history is legal, and its texts
-module _ (old new : MachineView) (raw raw_then : SourceView ℕ) (more : OneMore old new raw raw_then) where
+module _ (old new : MachineView) (seen seen_then : Sources) (more : OneMore old new seen seen_then) where
+  traded_more : TradedBoth old new seen seen_then
+  traded_more = record { arenas = more.arenas.traded; raws = more.raws.traded }
+
   abbrev then : List Entry
   then = old.entries ++ more.entry ∷ []
 
@@ -114,46 +114,46 @@ module _ (old new : MachineView) (raw raw_then : SourceView ℕ) (more : OneMore
   pub less_left : left_in (tracks_of new) (state_of new) < left_in (tracks_of old) (state_of old)
   less_left = carried (λ (t : List PlainTrack) (es : List Entry). left_in t (last_state t es) < left_in (tracks_of old) (state_of old)) (leaves_less (tracks_of old) old.entries more.entry more.next)
 
-  pub goes_on : (first : MachineView) (before now after : Option (List ℕ)) (raw_first : SourceView ℕ) → IsKnownTrace old.trace → Going first old before now raw_first raw → Appends now after (text_from old more.entry)
-      → Going first new before after raw_first raw_then
-  goes_on first before now after raw_first known going text = record {
+  pub goes_on : (first : MachineView) (before now after : Option (List ℕ)) (seen_first : Sources) → IsKnownTrace old.trace → Going first old before now seen_first seen → Appends now after (text_from old more.entry)
+      → Going first new before after seen_first seen_then
+  goes_on first before now after seen_first known going text = record {
     same = more.same ∙ going.same;
     legal = carried IsLegal (legal_then going.legal);
     written = carried (λ (t : List PlainTrack) (es : List Entry). Appends before after (events_text t es)) (subst (Appends before after) (sym texts_then) (Appends-trans before now after _ _ going.written text));
-    served = carried (λ (t : List PlainTrack) (es : List Entry). Served t es raw_first raw_then)
-        (served_more old.trace old.entries more.entry old.held new.held raw_first raw raw_then known more.next going.served more.requests);
-    traded = traded_then first.held old.held new.held raw_first raw raw_then going.traded more.requests.traded;
+    served = carried (λ (t : List PlainTrack) (es : List Entry). Served t es seen_first seen_then)
+        (served_more old new more.entry seen_first seen seen_then known more.next going.served more.arenas more.raws);
+    traded = traded_on first old new seen_first seen seen_then going.traded traded_more;
   }
 
   -- the text of the last event was cut off
-  pub cut_there : (first : MachineView) (before now after : Option (List ℕ)) (raw_first : SourceView ℕ) → Going first old before now raw_first raw → WroteFront now after (text_from old more.entry)
+  pub cut_there : (first : MachineView) (before now after : Option (List ℕ)) (seen_first : Sources) → Going first old before now seen_first seen → WroteFront now after (text_from old more.entry)
       → WasCut (tracks_of new) new.entries before after
-  cut_there first before now after raw_first going front =
+  cut_there first before now after seen_first going front =
       carried (λ (t : List PlainTrack) (es : List Entry). WasCut t es before after) (record {
         legal = legal_then going.legal;
         cut = inl (record { earlier = old.entries; last = more.entry; all = refl; between = now; texts = going.written; front = front });
       })
 
   -- the text of the last event was not written
-  pub missing_last : (first : MachineView) (before now : Option (List ℕ)) (raw_first : SourceView ℕ) → Going first old before now raw_first raw → RanOut (tracks_of new) new.entries before now
-  missing_last first before now raw_first going =
+  pub missing_last : (first : MachineView) (before now : Option (List ℕ)) (seen_first : Sources) → Going first old before now seen_first seen → RanOut (tracks_of new) new.entries before now
+  missing_last first before now seen_first going =
       carried (λ (t : List PlainTrack) (es : List Entry). RanOut t es before now) (record {
         legal = legal_then going.legal;
         some = record { earlier = old.entries; later = more.entry ∷ []; all = refl; texts = going.written };
       })
 
   -- the source answered the requests, also of the last event
-  pub served_last : (first : MachineView) (before now : Option (List ℕ)) (raw_first : SourceView ℕ) → IsKnownTrace old.trace → Going first old before now raw_first raw → Served (tracks_of new) new.entries raw_first raw_then
-  served_last first before now raw_first known going =
-      carried (λ (t : List PlainTrack) (es : List Entry). Served t es raw_first raw_then)
-      (served_more old.trace old.entries more.entry old.held new.held raw_first raw raw_then known more.next going.served more.requests)
+  pub served_last : (first : MachineView) (before now : Option (List ℕ)) (seen_first : Sources) → IsKnownTrace old.trace → Going first old before now seen_first seen → Served (tracks_of new) new.entries seen_first seen_then
+  served_last first before now seen_first known going =
+      carried (λ (t : List PlainTrack) (es : List Entry). Served t es seen_first seen_then)
+      (served_more old new more.entry seen_first seen seen_then known more.next going.served more.arenas more.raws)
 
-  pub traded_last : (first : MachineView) (before now : Option (List ℕ)) (raw_first : SourceView ℕ) → Going first old before now raw_first raw → Traded first.held new.held raw_first raw_then
-  traded_last first before now raw_first going = traded_then first.held old.held new.held raw_first raw raw_then going.traded more.requests.traded
+  pub traded_last : (first : MachineView) (before now : Option (List ℕ)) (seen_first : Sources) → Going first old before now seen_first seen → TradedBoth first new seen_first seen_then
+  traded_last first before now seen_first going = traded_on first old new seen_first seen seen_then going.traded traded_more
 
 -- all texts were written
-pub missing_none : (first m : MachineView) (before now : Option (List ℕ)) (raw raw_now : SourceView ℕ) → Going first m before now raw raw_now → RanOut (tracks_of m) m.entries before now
-missing_none first m before now raw raw_now going = record {
+pub missing_none : (first m : MachineView) (before now : Option (List ℕ)) (seen seen_now : Sources) → Going first m before now seen seen_now → RanOut (tracks_of m) m.entries before now
+missing_none first m before now seen seen_now going = record {
   legal = going.legal;
   some = record { earlier = m.entries; later = []; all = sym (append-nil m.entries); texts = going.written };
 }
@@ -171,18 +171,19 @@ ran_out_kept tracks es before now after ran kept = record {
 }
 
 -- memory ran out in an event, or after it
-pub stopped_nearly : (first old new : MachineView) (before now : Option (List ℕ)) (raw_first raw raw_then : SourceView ℕ) → IsKnownTrace old.trace → Going first old before now raw_first raw → Stopped old new raw raw_then
-    → ServedNearly (tracks_of new) new.entries raw_first raw_then
-stopped_nearly first old new before now raw_first raw raw_then known going stopped = elim stopped as (λ u. ServedNearly (tracks_of new) new.entries raw_first raw_then) [
-  | inl same ↦ subst (λ (m : MachineView). ServedNearly (tracks_of m) m.entries raw_first raw_then) (sym same.0) (served_failed (tracks_of old) old.entries old.held raw_first raw raw_then going.served same.1)
-  | inr more ↦ served_nearly (tracks_of new) new.entries raw_first raw_then (served_last old new raw raw_then more first before now raw_first known going)
+pub stopped_nearly : (first old new : MachineView) (before now : Option (List ℕ)) (seen_first seen seen_then : Sources) → IsKnownTrace old.trace → Going first old before now seen_first seen → Stopped old new seen seen_then
+    → ServedNearly (tracks_of new) new.entries seen_first seen_then
+stopped_nearly first old new before now seen_first seen seen_then known going stopped = elim stopped as (λ u. ServedNearly (tracks_of new) new.entries seen_first seen_then) [
+  | inl same ↦ subst (λ (m : MachineView). ServedNearly (tracks_of m) m.entries seen_first seen_then) (sym same.0) (served_failed (tracks_of old) old.entries old seen_first seen seen_then going.served same.1 same.2)
+  | inr more ↦ served_nearly (tracks_of new) new.entries seen_first seen_then (served_last old new seen seen_then more first before now seen_first known going)
 ]
 
-pub stopped_traded : (first old new : MachineView) (before now : Option (List ℕ)) (raw_first raw raw_then : SourceView ℕ) → Going first old before now raw_first raw → Stopped old new raw raw_then
-    → Traded first.held new.held raw_first raw_then
-stopped_traded first old new before now raw_first raw raw_then going stopped = elim stopped as (λ u. Traded first.held new.held raw_first raw_then) [
-  | inl same ↦ subst (λ (m : MachineView). Traded first.held m.held raw_first raw_then) (sym same.0) (traded_then first.held old.held old.held raw_first raw raw_then going.traded same.1.traded)
-  | inr more ↦ traded_last old new raw raw_then more first before now raw_first going
+pub stopped_traded : (first old new : MachineView) (before now : Option (List ℕ)) (seen_first seen seen_then : Sources) → Going first old before now seen_first seen → Stopped old new seen seen_then
+    → TradedBoth first new seen_first seen_then
+stopped_traded first old new before now seen_first seen seen_then going stopped = elim stopped as (λ u. TradedBoth first new seen_first seen_then) [
+  | inl same ↦ subst (λ (m : MachineView). TradedBoth first m seen_first seen_then) (sym same.0)
+      (traded_on first old old seen_first seen seen_then going.traded (record { arenas = same.1.traded; raws = same.2.traded }))
+  | inr more ↦ traded_last old new seen seen_then more first before now seen_first going
 ]
 
 -- one of two reasons
@@ -191,5 +192,14 @@ either_halt WriteFault P write memory = write refl
 either_halt OutOfMemory P write memory = memory refl
 
 -- the trace is known as long as it is the same
-pub known_now : {first m : MachineView} {before now : Option (List ℕ)} {raw raw_now : SourceView ℕ} → Going first m before now raw raw_now → IsKnownTrace first.trace → IsKnownTrace m.trace
+pub known_now : {first m : MachineView} {before now : Option (List ℕ)} {seen seen_now : Sources} → Going first m before now seen seen_now → IsKnownTrace first.trace → IsKnownTrace m.trace
 known_now going known = subst IsKnownTrace (sym going.same) known
+
+-- what a result that is fine ensures
+pub at_ok : {T E : Type 0} (r : Result T E) (x : T) (P : Type 0) → r ≡ Ok x → OnOk r P → P
+at_ok (Ok y) x P is h = h
+at_ok (Err e) x P is h = absurd cc
+
+-- what holds of a machine's trace and history holds of those that they are
+pub at_end : (P : List PlainTrack → List Entry → Type 0) (m : MachineView) (trace : Trace) (es : List Entry) → m.trace ≡ trace → es ≡ m.entries → P (tracks_of m) m.entries → P (plain trace).tracks es
+at_end P m trace es same is h = subst (λ (t : Trace). P (plain t).tracks es) same (subst (P (tracks_of m)) (sym is) h)

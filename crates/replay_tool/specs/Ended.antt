@@ -9,9 +9,8 @@ use Rattle.replay_tool.specs.declared.refusal.Refusal.{Refusal}
 use Rattle.replay_tool.specs.declared.refusal.Refusal.TheVariants.{Usage}
 use Rattle.replay_tool.specs.Words.{AsksReplay}
 use Rattle.replay_tool.specs.Input.{IsRead}
-use Rattle.sources.specs.Source.{ArenaShape, SourceView}
 use Rattle.replay_tool.specs.Events.{Ending}
-use Rattle.replay_tool.specs.Served.{arenas_shaped, raw_shaped}
+use Rattle.replay_tool.specs.Served.{NothingOut, Sources, shaped}
 use Rattle.replay_tool.specs.Refusals.{status_of, line_of, IsCause}
 
 -- the words, the three streams before and after a run with their counts of faults, the two sources, and the run's outcome
@@ -33,10 +32,8 @@ pub record Run : Type 0 where
   pub err_faults : ℕ
   pub err_faults_then : ℕ
   -- the sources of memory
-  pub arenas : SourceView ArenaShape
-  pub arenas_then : SourceView ArenaShape
-  pub raw : SourceView ℕ
-  pub raw_then : SourceView ℕ
+  pub seen : Sources
+  pub seen_then : Sources
   pub status : ℕ
   pub entries : List Entry
 
@@ -51,9 +48,8 @@ pub record DidNothing (before now : Option (List ℕ)) (es : List Entry) : Type 
   pub out : Keeps before now
 
 -- no source was asked for anything, not for a shape either
-pub record LeftAlone (r : Run) : Type 0 where
-  pub arenas_same : r.arenas_then ≡ r.arenas
-  pub raw_same : r.raw_then ≡ r.raw
+abbrev pub LeftAlone : Run → Type 0
+LeftAlone r = r.seen_then ≡ r.seen
 
 -- the run was refused, and the line that tells it was written
 pub record Told (r : Run) (refusal : Refusal) : Type 0 where
@@ -74,9 +70,8 @@ pub record Untold (r : Run) (refusal : Refusal) : Type 0 where
 pub record Ran (r : Run) : Type 0 where
   pub trace : PlainTrace
   pub accepted : Accepted r.words r.left r.left_then trace
-  pub ending : Ending trace.tracks r.entries r.out r.out_then r.out_faults r.out_faults_then r.status (raw_shaped r.raw) r.raw_then
-  pub idle : r.arenas_then ≡ arenas_shaped r.arenas
-  pub back : r.raw_then.out ≡ []
+  pub ending : Ending trace.tracks r.entries r.out r.out_then r.out_faults r.out_faults_then r.status (shaped r.seen) r.seen_then
+  pub back : NothingOut r.seen_then
   pub quiet : Keeps r.err r.err_then
 
 -- memory ran out before the replay

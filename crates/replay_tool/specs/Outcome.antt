@@ -11,37 +11,36 @@ use Rattle.event_model.specs.History.{last_state, EndsInFault}
 use Rattle.report_model.specs.Report.{status_in}
 use Rattle.replay_tool.specs.declared.refusal.Refusal.{Refusal}
 use Rattle.replay_tool.specs.Events.{RanWhole, WasCut, RanOut}
-use Rattle.sources.specs.Source.{SourceView}
 use Rattle.replay_tool.specs.Ended.{Accepted}
-use Rattle.replay_tool.specs.Served.{Served, ServedNearly, raw_shaped}
+use Rattle.replay_tool.specs.Served.{Served, ServedNearly, Sources, shaped}
 use Rattle.replay_tool.specs.Refusals.{line_of, max_input, IsCause}
 
 abbrev pub Cause : Type 0
 Cause = TraceCause
 
--- the input was accepted, the history is legal and whole, its report was written, the raw source answered just its requests,
+-- the input was accepted, the history is legal and whole, its report was written, the sources answered just its requests,
 -- and the status says whether a fault came
-pub record IsReplayed (words : List (List ℕ)) (old new before now : Option (List ℕ)) (es : List Entry) (status : ℕ) (raw raw_then : SourceView ℕ) : Type 0 where
+pub record IsReplayed (words : List (List ℕ)) (old new before now : Option (List ℕ)) (es : List Entry) (status : ℕ) (seen seen_then : Sources) : Type 0 where
   pub trace : PlainTrace
   pub accepted : Accepted words old new trace
   pub run : RanWhole trace.tracks es before now
-  pub served : Served trace.tracks es (raw_shaped raw) raw_then
+  pub served : Served trace.tracks es (shaped seen) seen_then
   pub status_is : status ≡ status_in (last_state trace.tracks es)
   pub fault : status ≡ 1 → EndsInFault trace.tracks es
 
 -- the input was accepted, and a write of the report failed within a text
-pub record IsCutOff (words : List (List ℕ)) (old new before now : Option (List ℕ)) (es : List Entry) (raw raw_then : SourceView ℕ) : Type 0 where
+pub record IsCutOff (words : List (List ℕ)) (old new before now : Option (List ℕ)) (es : List Entry) (seen seen_then : Sources) : Type 0 where
   pub trace : PlainTrace
   pub accepted : Accepted words old new trace
   pub run : WasCut trace.tracks es before now
-  pub served : Served trace.tracks es (raw_shaped raw) raw_then
+  pub served : Served trace.tracks es (shaped seen) seen_then
 
 -- the input was accepted, and memory ran out during its replay
-pub record IsBrokenOff (words : List (List ℕ)) (old new before now : Option (List ℕ)) (es : List Entry) (raw raw_then : SourceView ℕ) : Type 0 where
+pub record IsBrokenOff (words : List (List ℕ)) (old new before now : Option (List ℕ)) (es : List Entry) (seen seen_then : Sources) : Type 0 where
   pub trace : PlainTrace
   pub accepted : Accepted words old new trace
   pub run : RanOut trace.tracks es before now
-  pub served : ServedNearly trace.tracks es (raw_shaped raw) raw_then
+  pub served : ServedNearly trace.tracks es (shaped seen) seen_then
 
 -- the run was refused for this cause, and the line that tells it was written
 pub record IsTold (refusal : Refusal) (words : List (List ℕ)) (old new : Option (List ℕ)) (faults faults_then : ℕ) (before now : Option (List ℕ)) : Type 0 where

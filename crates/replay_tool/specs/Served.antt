@@ -1,11 +1,20 @@
 -- What the sources did in a run.
-use Rattle.std.specs.Prelude.{◌≡◌, ℕ, ◌+◌, ◌≤◌, List}
+use Rattle.std.specs.Prelude.{◌≡◌, ℕ, ◌+◌, ◌≤◌, List, []}
 use Rattle.mem_base.specs.declared.history.Entry.{Entry}
+use Rattle.mem_base.specs.declared.trace.Side.{Side}
 use Rattle.mem_base.specs.declared.trace.Side.TheVariants as sides
 use Rattle.trace_model.specs.Plain.{PlainTrack}
 use Rattle.event_model.specs.Plans.{GrowsBy, Heeds, is_planned}
 use Rattle.event_model.specs.Requests.{asked_in, refused_in}
 use Rattle.sources.specs.Source.{ArenaShape, SourceView, shape_after}
+
+-- both sources of a run
+pub record Sources : Type 0 where
+  pub arenas : SourceView ArenaShape
+  pub raw : SourceView ℕ
+
+abbrev pub both : SourceView ArenaShape → SourceView ℕ → Sources
+both arenas raw = record { arenas = arenas; raw = raw }
 
 -- a run asks for room for 256 arenas, without skew
 abbrev pub arenas_shaped : SourceView ArenaShape → SourceView ArenaShape
@@ -15,21 +24,40 @@ arenas_shaped seen = record seen { shape = shape_after seen.out (record { max = 
 abbrev pub raw_shaped : SourceView ℕ → SourceView ℕ
 raw_shaped seen = record seen { shape = shape_after seen.out 268435456 seen.shape }
 
--- the raw source answered just the requests of a history: its counts rose by theirs, its plan grew by what the operations list,
--- and each request that the plan has was refused
-pub record Served (tracks : List PlainTrack) (es : List Entry) (before now : SourceView ℕ) : Type 0 where
-  pub asked : now.asked ≡ before.asked + asked_in sides.Raw es
-  pub refused : now.refused ≡ before.refused + refused_in sides.Raw es
-  pub plan : GrowsBy (is_planned tracks sides.Raw before.asked es) before.plan now.plan
-  pub heeds : Heeds sides.Raw now.plan before.asked es
-  pub window : now.window ≡ before.window
-  pub shape : now.shape ≡ before.shape
+abbrev pub shaped : Sources → Sources
+shaped s = both (arenas_shaped s.arenas) (raw_shaped s.raw)
 
--- the same, but that each count may have risen by one request more, for an event that found no memory
-pub record ServedNearly (tracks : List PlainTrack) (es : List Entry) (before now : SourceView ℕ) : Type 0 where
-  pub asked : (before.asked + asked_in sides.Raw es ≤ now.asked) × (now.asked ≤ before.asked + asked_in sides.Raw es + 1)
-  pub refused : (before.refused + refused_in sides.Raw es ≤ now.refused) × (now.refused ≤ before.refused + refused_in sides.Raw es + 1)
-  pub plan : GrowsBy (is_planned tracks sides.Raw before.asked es) before.plan now.plan
-  pub heeds : Heeds sides.Raw now.plan before.asked es
-  pub window : now.window ≡ before.window
-  pub shape : now.shape ≡ before.shape
+-- nothing is out of either source
+pub record NothingOut (s : Sources) : Type 0 where
+  pub arenas : s.arenas.out ≡ []
+  pub raw : s.raw.out ≡ []
+
+module _ {S : Type 0} where
+  -- the source of a side answered just the requests of a history: its counts rose by theirs, its plan grew by what the operations list,
+  -- and each request that the plan has was refused
+  pub record ServedOn (side : Side) (tracks : List PlainTrack) (es : List Entry) (before now : SourceView S) : Type 0 where
+    pub asked : now.asked ≡ before.asked + asked_in side es
+    pub refused : now.refused ≡ before.refused + refused_in side es
+    pub plan : GrowsBy (is_planned tracks side before.asked es) before.plan now.plan
+    pub heeds : Heeds side now.plan before.asked es
+    pub window : now.window ≡ before.window
+    pub shape : now.shape ≡ before.shape
+
+  -- the same, but that each count may have risen by one request more, for an event that found no memory
+  pub record NearlyOn (side : Side) (tracks : List PlainTrack) (es : List Entry) (before now : SourceView S) : Type 0 where
+    pub asked : (before.asked + asked_in side es ≤ now.asked) × (now.asked ≤ before.asked + asked_in side es + 1)
+    pub refused : (before.refused + refused_in side es ≤ now.refused) × (now.refused ≤ before.refused + refused_in side es + 1)
+    pub plan : GrowsBy (is_planned tracks side before.asked es) before.plan now.plan
+    pub heeds : Heeds side now.plan before.asked es
+    pub window : now.window ≡ before.window
+    pub shape : now.shape ≡ before.shape
+
+-- both sources answered just the requests of a history
+pub record Served (tracks : List PlainTrack) (es : List Entry) (before now : Sources) : Type 0 where
+  pub arenas : ServedOn sides.Arena tracks es before.arenas now.arenas
+  pub raw : ServedOn sides.Raw tracks es before.raw now.raw
+
+-- the same, but for an event that found no memory
+pub record ServedNearly (tracks : List PlainTrack) (es : List Entry) (before now : Sources) : Type 0 where
+  pub arenas : NearlyOn sides.Arena tracks es before.arenas now.arenas
+  pub raw : NearlyOn sides.Raw tracks es before.raw now.raw

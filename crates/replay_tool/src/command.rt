@@ -8,7 +8,8 @@ ghost use Rattle.replay_tool.specs.Events.{Ending};
 ghost use Rattle.replay_tool.specs.Ended.{Ended, Refusing, DidNothing};
 ghost use Rattle.replay_tool.specs.Outcome.{Cause, IsReplayed, IsTold, IsRefusal, IsCutOff, IsUntold, IsBrokenOff, IsOrYields, RefusesFaulty, RefusesTooMany, ReplaysSpelt};
 ghost use Rattle.replay_tool.specs.Refusals.{max_input};
-ghost use Rattle.replay_tool.specs.Served.{arenas_shaped, raw_shaped};
+ghost use Rattle.extents.specs.Extent.{AreDisjoint};
+ghost use Rattle.replay_tool.specs.Served.{both, shaped, NothingOut};
 ghost use Rattle.replay_tool.specs.Words.{texts_of, AsksReplay};
 
 use crate::events::{Halt, status_of, write_report};
@@ -55,12 +56,12 @@ fn replay<A: ArenaSource, R: RawSource, O: Sink>(
     out: &mut O,
 ) -> Outcome
     requires known { IsKnownTrace trace }
-    requires count { (R.seen raw.old).asked < 2 ^ 62 }
-    requires none_out { (R.seen raw.old).out ≡ [] }
+    requires count { ((A.seen arenas.old).asked < 2 ^ 62) × ((R.seen raw.old).asked < 2 ^ 62) }
+    requires none_out { NothingOut (both (A.seen arenas.old) (R.seen raw.old)) }
+    requires apart { AreDisjoint (A.seen arenas.old).window (R.seen raw.old).window }
     ensures ending { Ending (plain trace).tracks result.history.entries (O.written out.old) (O.written out.new)
-        (O.faults out.old) (O.faults out.new) result.status (raw_shaped (R.seen raw.old)) (R.seen raw.new) }
-    ensures back { (R.seen raw.new).out ≡ [] }
-    ensures idle { A.seen arenas.new ≡ arenas_shaped (A.seen arenas.old) }
+        (O.faults out.old) (O.faults out.new) result.status (shaped (both (A.seen arenas.old) (R.seen raw.old))) (both (A.seen arenas.new) (R.seen raw.new)) }
+    ensures back { NothingOut (both (A.seen arenas.new) (R.seen raw.new)) }
 {
     arenas.shape(DEFAULT_ARENAS, 0);
     raw.shape(MAX_RAW_BYTES);
@@ -100,8 +101,9 @@ fn run_words<I: Source, A: ArenaSource, R: RawSource, O: Sink, E: Sink>(
     out: &mut O,
     err: &mut E,
 ) -> Outcome
-    requires count { (R.seen raw.old).asked < 2 ^ 62 }
-    requires none_out { (R.seen raw.old).out ≡ [] }
+    requires count { ((A.seen arenas.old).asked < 2 ^ 62) × ((R.seen raw.old).asked < 2 ^ 62) }
+    requires none_out { NothingOut (both (A.seen arenas.old) (R.seen raw.old)) }
+    requires apart { AreDisjoint (A.seen arenas.old).window (R.seen raw.old).window }
     ensures { Ended (record {
       words = texts_of words.now;
       left = I.left input.old;
@@ -116,10 +118,8 @@ fn run_words<I: Source, A: ArenaSource, R: RawSource, O: Sink, E: Sink>(
       err_then = E.written err.new;
       err_faults = E.faults err.old;
       err_faults_then = E.faults err.new;
-      arenas = A.seen arenas.old;
-      arenas_then = A.seen arenas.new;
-      raw = R.seen raw.old;
-      raw_then = R.seen raw.new;
+      seen = both (A.seen arenas.old) (R.seen raw.old);
+      seen_then = both (A.seen arenas.new) (R.seen raw.new);
       status = result.status;
       entries = result.history.entries;
     }) }
@@ -155,11 +155,13 @@ pub fn run<I: Source, A: ArenaSource, R: RawSource, O: Sink, E: Sink>(
     err: &mut E,
 ) -> Outcome
     requires count { ((A.seen arenas.old).asked < 2 ^ 62) × ((R.seen raw.old).asked < 2 ^ 62) }
-    requires none_out { ((A.seen arenas.old).out ≡ []) × ((R.seen raw.old).out ≡ []) }
+    requires none_out { NothingOut (both (A.seen arenas.old) (R.seen raw.old)) }
+    requires apart { AreDisjoint (A.seen arenas.old).window (R.seen raw.old).window }
 
     // 0 and 1: the report of a legal and whole history of the trace was written, and nothing else.
     ensures replayed { result.status ≤ 1 → IsReplayed (texts_of words.now) (I.left input.old) (I.left input.new)
-        (O.written out.old) (O.written out.new) result.history.entries result.status (R.seen raw.old) (R.seen raw.new) }
+        (O.written out.old) (O.written out.new) result.history.entries result.status
+        (both (A.seen arenas.old) (R.seen raw.old)) (both (A.seen arenas.new) (R.seen raw.new)) }
     ensures quiet { result.status ≤ 1 → Keeps (E.written err.old) (E.written err.new) }
 
     // 2, 3, 4 and 7: why, and the line that tells it.
@@ -176,21 +178,22 @@ pub fn run<I: Source, A: ArenaSource, R: RawSource, O: Sink, E: Sink>(
     // 5: a sink's fault, in the report or in the line of a refusal.
     ensures write_fault { result.status ≡ 5 →
         (Rose (O.faults out.old) (O.faults out.new) × Keeps (E.written err.old) (E.written err.new)
-        × IsCutOff (texts_of words.now) (I.left input.old) (I.left input.new) (O.written out.old) (O.written out.new) result.history.entries (R.seen raw.old) (R.seen raw.new))
+        × IsCutOff (texts_of words.now) (I.left input.old) (I.left input.new) (O.written out.old) (O.written out.new) result.history.entries
+        (both (A.seen arenas.old) (R.seen raw.old)) (both (A.seen arenas.new) (R.seen raw.new)))
         ⊎ (Rose (E.faults err.old) (E.faults err.new)
         × DidNothing (O.written out.old) (O.written out.new) result.history.entries
+        × (both (A.seen arenas.new) (R.seen raw.new) ≡ both (A.seen arenas.old) (R.seen raw.old))
         × IsUntold (texts_of words.now) (I.left input.old) (I.left input.new) (I.faults input.old) (I.faults input.new) (E.written err.old) (E.written err.new)) }
 
     // 6: what was written is a front of the report.
     ensures no_memory { result.status ≡ 6 → AsksReplay (texts_of words.now) × Keeps (E.written err.old) (E.written err.new)
-        × (DidNothing (O.written out.old) (O.written out.new) result.history.entries
-        ⊎ IsBrokenOff (texts_of words.now) (I.left input.old) (I.left input.new) (O.written out.old) (O.written out.new) result.history.entries (R.seen raw.old) (R.seen raw.new)) }
+        × ((DidNothing (O.written out.old) (O.written out.new) result.history.entries × (both (A.seen arenas.new) (R.seen raw.new) ≡ both (A.seen arenas.old) (R.seen raw.old)))
+        ⊎ IsBrokenOff (texts_of words.now) (I.left input.old) (I.left input.new) (O.written out.old) (O.written out.new) result.history.entries
+        (both (A.seen arenas.old) (R.seen raw.old)) (both (A.seen arenas.new) (R.seen raw.new))) }
 
-    // Whatever the status, nothing is out; and a run that did no event left the sources alone.
-    ensures back { ((A.seen arenas.new).out ≡ []) × ((R.seen raw.new).out ≡ []) }
-    ensures idle { (A.seen arenas.new ≡ A.seen arenas.old) ⊎ (A.seen arenas.new ≡ arenas_shaped (A.seen arenas.old)) }
-    ensures shaped { result.status ≤ 1 → A.seen arenas.new ≡ arenas_shaped (A.seen arenas.old) }
-    ensures alone { IsRefusal result.status → (A.seen arenas.new ≡ A.seen arenas.old) × (R.seen raw.new ≡ R.seen raw.old) }
+    // Whatever the status, nothing is out; and a run that was refused left the sources alone.
+    ensures back { NothingOut (both (A.seen arenas.new) (R.seen raw.new)) }
+    ensures alone { IsRefusal result.status → both (A.seen arenas.new) (R.seen raw.new) ≡ both (A.seen arenas.old) (R.seen raw.old) }
 
     // There is no other status.
     ensures known { result.status ≤ 7 }

@@ -1,21 +1,18 @@
-ghost use Rattle.std.specs.Prelude.{◌≡◌, ◌<◌, ◌≤◌, ◌^◌, ◌++◌, [], true, false, OnOk, OnErr, IfSome, IfNone, IsErrOf, IsSome};
+ghost use Rattle.std.specs.Prelude.{◌≡◌, ◌<◌, ◌≤◌, ◌^◌, [], true, false, OnOk, OnErr, IfSome, IfNone, IsErrOf};
 ghost use Rattle.std.specs.Io.KnownBytes.{Appends, Keeps};
 ghost use Rattle.streams.specs.Faults.{Rose};
 ghost use Rattle.streams.specs.Moves.{WroteFront};
-ghost use Rattle.trace_model.specs.Known.{IsKnownTrace, op_at};
-ghost use Rattle.trace_model.specs.Plain.{plain};
 ghost use Rattle.event_model.specs.Events.{is_ready};
 ghost use Rattle.event_model.specs.History.{IsWhole};
-ghost use Rattle.report_model.specs.Report.{owner_word, status_in, summary_text};
+ghost use Rattle.report_model.specs.Report.{status_in, summary_text};
 ghost use Rattle.machine_core.specs.View.{tracks_of, state_of};
-ghost use Rattle.extents.specs.Sums.{AllIn};
-ghost use Rattle.sources.specs.Holder.{Traded};
-ghost use Rattle.replay_tool.specs.Events.{step_text, Stopped, DidEvent, WroteEvent, CutEvent, RanWhole, WasCut, RanOut};
-ghost use Rattle.replay_tool.specs.Served.{Served, ServedNearly};
+ghost use Rattle.domain_api.specs.Held.{AreOut};
+ghost use Rattle.replay_tool.specs.Events.{Stopped, DidEvent, WroteEvent, CutEvent, RanWhole, WasCut, RanOut, TradedBoth};
+ghost use Rattle.replay_tool.specs.Served.{both, Served, ServedNearly};
 
-use crate::report::{push_event, push_summary};
 use machine_core::Machine;
-use mem_base::{Step, Trace, TrackId};
+use mem_base::TrackId;
+use report_text::{push_event, push_summary};
 use sources::{ArenaSource, RawSource};
 use std::alloc::{AllocError, Global};
 use streams::{Sink, write_all};
@@ -43,21 +40,6 @@ fn write_text<O: Sink>(out: &mut O, text: &[u8]) -> Result<(), Halt>
 
 // ---- one event
 
-// Adds the text of a step.
-fn push_step(trace: &Trace, number: u64, step: &Step, text: &mut Vec<u8>) -> Result<(), AllocError>
-    requires known { IsKnownTrace trace.now }
-    requires op { IsSome (op_at trace.now.tracks step.now.entry.track step.now.entry.at) }
-    ensures { OnOk result (text.new.items ≡ text.old.items ++ step_text trace.now number step.now) }
-{
-    let Some(track) = trace.tracks.get(step.entry.track as usize) else {
-        unreachable!()
-    };
-    let Some(op) = track.ops.get(step.entry.at as usize) else {
-        unreachable!()
-    };
-    push_event(text, &trace.texts, number, track.name, op, &step.reply)
-}
-
 // Does one event, and puts its text in place of what the buffer held.
 fn do_event<A: ArenaSource, R: RawSource>(
     machine: &mut Machine,
@@ -68,16 +50,17 @@ fn do_event<A: ArenaSource, R: RawSource>(
 ) -> Result<(), AllocError>
     requires ready { is_ready (tracks_of machine.old) (state_of machine.old) t ≡ true }
     requires no_fault { (state_of machine.old).faulted ≡ false }
-    requires count { (R.seen raws.old).asked < 2 ^ 63 }
-    requires held { AllIn machine.old.held (R.seen raws.old).out }
-    ensures did { OnOk result (DidEvent machine.old machine.new (R.seen raws.old) (R.seen raws.new) text.new.items) }
-    ensures err { OnErr result (Stopped machine.old machine.new (R.seen raws.old) (R.seen raws.new)) }
-    ensures arenas { A.seen arenas.new ≡ A.seen arenas.old }
+    requires arena { (A.seen arenas.old).asked < 2 ^ 63 }
+    requires raw { (R.seen raws.old).asked < 2 ^ 63 }
+    requires held { AreOut machine.old.arenas machine.old.raws (A.seen arenas.old) (R.seen raws.old) }
+    ensures did { OnOk result (DidEvent machine.old machine.new (both (A.seen arenas.old) (R.seen raws.old)) (both (A.seen arenas.new) (R.seen raws.new)) text.new.items) }
+    ensures err { OnErr result (Stopped machine.old machine.new (both (A.seen arenas.old) (R.seen raws.old)) (both (A.seen arenas.new) (R.seen raws.new))) }
+    ensures held { AreOut machine.new.arenas machine.new.raws (A.seen arenas.new) (R.seen raws.new) }
 {
     let step = machine.step(t, arenas, raws)?;
     let number = machine.history().entries.len() as u64;
     text.clear();
-    push_step(machine.trace(), number, &step, text)
+    push_event(text, number, &step, machine.trace())
 }
 
 // Does one event, and writes its text.
@@ -91,15 +74,16 @@ fn one_event<A: ArenaSource, R: RawSource, O: Sink>(
 ) -> Result<(), Halt>
     requires ready { is_ready (tracks_of machine.old) (state_of machine.old) t ≡ true }
     requires no_fault { (state_of machine.old).faulted ≡ false }
-    requires count { (R.seen raws.old).asked < 2 ^ 63 }
-    requires held { AllIn machine.old.held (R.seen raws.old).out }
-    ensures wrote { OnOk result (WroteEvent machine.old machine.new (R.seen raws.old) (R.seen raws.new) (O.written out.old) (O.written out.new)) }
-    ensures cut { IsErrOf result Halt.WriteFault → CutEvent machine.old machine.new (R.seen raws.old) (R.seen raws.new) (O.written out.old) (O.written out.new) }
+    requires arena { (A.seen arenas.old).asked < 2 ^ 63 }
+    requires raw { (R.seen raws.old).asked < 2 ^ 63 }
+    requires held { AreOut machine.old.arenas machine.old.raws (A.seen arenas.old) (R.seen raws.old) }
+    ensures wrote { OnOk result (WroteEvent machine.old machine.new (both (A.seen arenas.old) (R.seen raws.old)) (both (A.seen arenas.new) (R.seen raws.new)) (O.written out.old) (O.written out.new)) }
+    ensures cut { IsErrOf result Halt.WriteFault → CutEvent machine.old machine.new (both (A.seen arenas.old) (R.seen raws.old)) (both (A.seen arenas.new) (R.seen raws.new)) (O.written out.old) (O.written out.new) }
     ensures cause { IsErrOf result Halt.WriteFault → Rose (O.faults out.old) (O.faults out.new) }
-    ensures memory { IsErrOf result Halt.OutOfMemory → Stopped machine.old machine.new (R.seen raws.old) (R.seen raws.new) }
+    ensures memory { IsErrOf result Halt.OutOfMemory → Stopped machine.old machine.new (both (A.seen arenas.old) (R.seen raws.old)) (both (A.seen arenas.new) (R.seen raws.new)) }
     ensures kept { IsErrOf result Halt.OutOfMemory → Keeps (O.written out.old) (O.written out.new) }
     ensures later { O.faults out.old ≤ O.faults out.new }
-    ensures arenas { A.seen arenas.new ≡ A.seen arenas.old }
+    ensures held { AreOut machine.new.arenas machine.new.raws (A.seen arenas.new) (R.seen raws.new) }
 {
     match do_event(machine, t, arenas, raws, text) {
         Ok(()) => write_text(out, text.as_slice()),
@@ -121,20 +105,6 @@ fn next_track(machine: &Machine) -> Option<TrackId>
     machine.first_ready()
 }
 
-// What the summary calls the owner of the lock.
-fn owner_name(trace: &Trace, owner: Option<TrackId>) -> &[u8]
-    requires { IsKnownTrace trace.now }
-    ensures { result.now ≡ owner_word (plain trace.now).tracks owner }
-{
-    match owner {
-        None => b"free",
-        Some(t) => match trace.tracks.get(t as usize) {
-            Some(track) => trace.texts.get(track.name),
-            None => b"",
-        },
-    }
-}
-
 /// The status of a replay that was done to its end: 1 where a fault came.
 pub fn status_of(machine: &Machine) -> u8
     ensures { result ≡ status_in (state_of machine.now) }
@@ -151,9 +121,8 @@ fn write_summary<O: Sink>(machine: &Machine, text: &mut Vec<u8>, out: &mut O) ->
 {
     let totals = machine.totals();
     let status = status_of(machine);
-    let owner = owner_name(machine.trace(), totals.owner);
     text.clear();
-    if push_summary(text, owner, &totals, status).is_err() {
+    if push_summary(text, &totals, machine.trace(), status).is_err() {
         return Err(Halt::OutOfMemory);
     }
     write_text(out, text.as_slice())
@@ -169,20 +138,21 @@ pub fn write_report<A: ArenaSource, R: RawSource, O: Sink>(
     out: &mut O,
 ) -> Result<(), Halt>
     requires start { machine.old.entries ≡ [] }
-    requires count { (R.seen raws.old).asked < 2 ^ 62 }
-    requires held { AllIn machine.old.held (R.seen raws.old).out }
+    requires arena { (A.seen arenas.old).asked < 2 ^ 62 }
+    requires raw { (R.seen raws.old).asked < 2 ^ 62 }
+    requires held { AreOut machine.old.arenas machine.old.raws (A.seen arenas.old) (R.seen raws.old) }
     ensures trace { machine.new.trace ≡ machine.old.trace }
     ensures whole { OnOk result (RanWhole (tracks_of machine.new) machine.new.entries (O.written out.old) (O.written out.new)) }
     ensures cut { IsErrOf result Halt.WriteFault → WasCut (tracks_of machine.new) machine.new.entries (O.written out.old) (O.written out.new) }
     ensures cause { IsErrOf result Halt.WriteFault → Rose (O.faults out.old) (O.faults out.new) }
     ensures memory { IsErrOf result Halt.OutOfMemory → RanOut (tracks_of machine.new) machine.new.entries (O.written out.old) (O.written out.new) }
-    ensures served { OnOk result (Served (tracks_of machine.new) machine.new.entries (R.seen raws.old) (R.seen raws.new)) }
-    ensures served_cut { IsErrOf result Halt.WriteFault → Served (tracks_of machine.new) machine.new.entries (R.seen raws.old) (R.seen raws.new) }
-    ensures nearly { IsErrOf result Halt.OutOfMemory → ServedNearly (tracks_of machine.new) machine.new.entries (R.seen raws.old) (R.seen raws.new) }
-    ensures traded { Traded machine.old.held machine.new.held (R.seen raws.old) (R.seen raws.new) }
-    ensures arenas { A.seen arenas.new ≡ A.seen arenas.old }
+    ensures served { OnOk result (Served (tracks_of machine.new) machine.new.entries (both (A.seen arenas.old) (R.seen raws.old)) (both (A.seen arenas.new) (R.seen raws.new))) }
+    ensures served_cut { IsErrOf result Halt.WriteFault → Served (tracks_of machine.new) machine.new.entries (both (A.seen arenas.old) (R.seen raws.old)) (both (A.seen arenas.new) (R.seen raws.new)) }
+    ensures nearly { IsErrOf result Halt.OutOfMemory → ServedNearly (tracks_of machine.new) machine.new.entries (both (A.seen arenas.old) (R.seen raws.old)) (both (A.seen arenas.new) (R.seen raws.new)) }
+    ensures traded { TradedBoth machine.old machine.new (both (A.seen arenas.old) (R.seen raws.old)) (both (A.seen arenas.new) (R.seen raws.new)) }
+    ensures held { AreOut machine.new.arenas machine.new.raws (A.seen arenas.new) (R.seen raws.new) }
 {
-    // The trace has few operations, so the source can be asked once for each.
+    // The trace has few operations, so each source can be asked once for each.
     let _trace = machine.trace();
     let mut text = Vec::new(alloc);
     while let Some(t) = next_track(machine) {

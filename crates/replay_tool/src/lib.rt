@@ -5,7 +5,6 @@ mod command;
 mod events;
 mod input;
 mod refusal;
-mod report;
 #[cfg(test)]
 mod tests;
 mod words;

@@ -5,7 +5,7 @@ ghost use Rattle.streams.specs.Moves.{WroteFront};
 ghost use Rattle.trace_model.specs.Cause.{cause_word};
 ghost use Rattle.replay_tool.specs.Refusals.{refused_line, IsTelling};
 
-use crate::report::push_number;
+use report_text::push_number;
 use std::alloc::{AllocError, Global};
 use streams::{Sink, write_all};
 use trace_model::TraceCause;

@@ -1,16 +1,25 @@
 -- The texts of events, the summary, and the report of a history.
-use Rattle.std.specs.Prelude.{ℕ, ◌+◌, if◌then◌else◌, List, [], ◌∷◌, ◌++◌, slice_get, Option, Some, None, codes, decimal}
+use Rattle.std.specs.Prelude.{ℕ, ◌+◌, if◌then◌else◌, List, [], ◌∷◌, ◌++◌, map, slice_get, Option, Some, None, codes, decimal}
+use Rattle.std.specs.List.{flat_map, join_with_byte}
 use Rattle.mem_base.specs.declared.history.Entry.{Entry}
+use Rattle.mem_base.specs.declared.reply.ArenaLine.{ArenaLine}
+use Rattle.mem_base.specs.declared.reply.ClassLine.{ClassLine}
 use Rattle.mem_base.specs.declared.reply.Fault.{Fault}
 use Rattle.mem_base.specs.declared.reply.Fault.TheVariants.{Unlocked, BadId, BadLead, BadTail}
 use Rattle.mem_base.specs.declared.reply.Totals.{Totals}
-use Rattle.trace_model.specs.Plain.{Name, Action, acquire, release, malloc, free, poke, peek, refuse, other, PlainTrack}
+use Rattle.mem_base.specs.declared.reply.UsedPool.{UsedPool}
+use Rattle.mem_base.specs.declared.reply.View.{View}
+use Rattle.trace_model.specs.Plain.{Name, Action, acquire, release, malloc, free, poke, peek, heap, refuse, other, PlainTrack}
 use Rattle.trace_model.specs.Spelling.{line_of, hex_word, blank, line_end}
-use Rattle.event_model.specs.Effects.{State, PlainReply, ok, null, busy, absent, outside, held, not_held, bytes, fault, unsaid}
+use Rattle.event_model.specs.Effects.{State, PlainReply, ok, null, busy, absent, outside, held, not_held, bytes, shape, fault, unsaid}
 use Rattle.event_model.specs.Events.{next_action, event}
 use Rattle.event_model.specs.History.{opening, last_state, totals_of}
 
 -- ---- the text of an event
+
+-- how many blocks lie in pools, and how many in raw regions
+unfoldable pub shape_word : View → List ℕ
+shape_word v = codes "pool " ++ decimal v.pooled ++ codes " raw " ++ decimal v.raws
 
 abbrev pub reply_word : PlainReply → List ℕ
 reply_word ok = codes "ok"
@@ -21,6 +30,7 @@ reply_word outside = codes "outside"
 reply_word held = codes "held"
 reply_word not_held = codes "not_held"
 reply_word (bytes found) = hex_word found
+reply_word (shape v) = shape_word v
 reply_word (fault found block) = codes "fault"
 reply_word unsaid = []
 
@@ -47,8 +57,29 @@ head_line head = codes "  head " ++ hex_word head ++ line_end ∷ []
 unfoldable pub tail_line : List ℕ → List ℕ
 tail_line tail = codes "  tail " ++ hex_word tail ++ line_end ∷ []
 
--- the lines below that of the event: those of a fault, in a block of this name
+-- an arena with free pools: its number, its free pools, and all its pools
+unfoldable pub arena_line : ArenaLine → List ℕ
+arena_line a = codes "  arena " ++ decimal a.id ++ codes " free " ++ decimal a.free ++ codes " of " ++ decimal a.total ++ line_end ∷ []
+
+-- a pool with free blocks: its arena's number, and its blocks in use
+unfoldable pub pool_word : UsedPool → List ℕ
+pool_word p = decimal p.arena ++ codes ":" ++ decimal p.live
+
+-- the pools of a class that have free blocks, with commas between, or a minus sign where there is none
+abbrev pub pools_word : List UsedPool → List ℕ
+pools_word [] = codes "-"
+pools_word (p ∷ ps) = join_with_byte 44 (map pool_word (p ∷ ps))
+
+-- a class: the size of its blocks, its pools with free blocks, and how many pools are full
+unfoldable pub class_line : ClassLine → List ℕ
+class_line c = codes "  class " ++ decimal c.size ++ codes " used " ++ pools_word c.used ++ codes " full " ++ decimal c.full ++ line_end ∷ []
+
+abbrev pub shape_lines : View → List ℕ
+shape_lines v = flat_map arena_line v.arenas ++ flat_map class_line v.classes
+
+-- the lines below that of the event: the heap's arenas and classes, or those of a fault, in a block of this name
 abbrev pub more_lines : Name → PlainReply → List ℕ
+more_lines name (shape v) = shape_lines v
 more_lines name (fault found None) = fault_line found
 more_lines name (fault found (Some block)) = fault_line found ++ block_line name block.size ++ head_line block.head ++ tail_line block.tail
 more_lines name reply = []
@@ -61,6 +92,7 @@ block_name (malloc letter name size) = name
 block_name (free letter name) = name
 block_name (poke name offset new) = name
 block_name (peek name offset count) = name
+block_name heap = []
 block_name (refuse side number) = []
 block_name other = []
 

@@ -1,13 +1,11 @@
 -- Words that are read as an operation are its words, and its words are read as it.
-use Rattle.std.proofs.Common.{◌≡◌, ℕ, ◌<◌, ◌≤◌, Bool, true, cond, List, [], ◌∷◌, length, Ok, Err, refl, sym, ap, subst, ◌∙◌, inl, inr, lit<}
+use Rattle.std.proofs.Common.{◌≡◌, ℕ, ◌<◌, ◌≤◌, Bool, true, cond, List, [], ◌∷◌, length, Ok, Err, refl, sym, ap, subst, inl, inr, lit<}
 use Rattle.std.specs.Prelude.{nat_le, decimal, codes}
 use Rattle.std.specs.List.{AllByRecursion}
 use Rattle.std.specs.Fmt.{signed_decimal}
 use Rattle.std.proofs.lemmas.Bool.{leb-true, le-leb}
 use Rattle.mem_base.specs.declared.limits.TheConstants.{MAX_REACH, MAX_REFUSAL}
-use Rattle.mem_base.specs.declared.trace.Side.{Side}
-use Rattle.mem_base.specs.declared.trace.Side.TheVariants as sides
-use Rattle.trace_model.specs.Plain.{Name, Action, acquire, release, malloc, free, poke, peek, refuse, other}
+use Rattle.trace_model.specs.Plain.{Name, Action, acquire, release, malloc, free, poke, peek, heap, refuse, other}
 use Rattle.trace_model.specs.Spelling.{is_between, is_name, is_forged, letter_word, side_word, hex_word, words_of, Fits}
 use Rattle.trace_model.specs.declared.keyword.Keyword.{Keyword}
 use Rattle.trace_model.specs.declared.keyword.Keyword.TheVariants as keys
@@ -37,7 +35,11 @@ keyword_takes w k e =
                                     | inr e6 ↦
                                         elim (chosen keyword_text w keys.Peek _ k e6) [
                                           | inl h ↦ h
-                                          | inr e7 ↦ elim (chosen keyword_text w keys.Refuse _ k e7) [ inl h ↦ h | inr e8 ↦ absurd cc ]
+                                          | inr e7 ↦
+                                              elim (chosen keyword_text w keys.Heap _ k e7) [
+                                                | inl h ↦ h
+                                                | inr e8 ↦ elim (chosen keyword_text w keys.Refuse _ k e8) [ inl h ↦ h | inr e9 ↦ absurd cc ]
+                                              ]
                                         ]
                                   ]
                             ]
@@ -107,8 +109,7 @@ refuse_takes side number a e =
     let n = bind_ok (refusal_at number) (λ n. Ok (refuse s.0 n)) a s.2 in
     let st = side_takes side s.0 s.1 in
     let nt = ranged_takes 1 MAX_REFUSAL number n.0 n.1 in
-    subst (Spells keys.Refuse (side ∷ number ∷ [])) (ap (λ (s : Side). refuse s n.0) (sym st.1) ∙ ok_is (refuse s.0 n.0) a n.2)
-    ((λ i. codes "refuse" ∷ sym st.0 i ∷ sym nt.0 i ∷ []), (nt.1, nt.2))
+    subst (Spells keys.Refuse (side ∷ number ∷ [])) (ok_is (refuse s.0 n.0) a n.2) ((λ i. codes "refuse" ∷ sym st i ∷ sym nt.0 i ∷ []), (nt.1, nt.2))
 
 pub action_takes : (k : Keyword) (ws : List (List ℕ)) (a : Action) → action_at k ws ≡ Ok a → Spells k ws a
 unfolding action_at
@@ -136,6 +137,8 @@ action_takes keys.Peek (w ∷ []) a e = absurd cc
 action_takes keys.Peek (w ∷ x ∷ []) a e = absurd cc
 action_takes keys.Peek (w ∷ x ∷ y ∷ z ∷ ws) a e = absurd cc
 action_takes keys.Peek (name ∷ offset ∷ count ∷ []) a e = peek_takes name offset count a e
+action_takes keys.Heap [] a e = subst (Spells keys.Heap []) (ok_is heap a e) (refl, tt)
+action_takes keys.Heap (w ∷ ws) a e = absurd cc
 action_takes keys.Refuse [] a e = absurd cc
 action_takes keys.Refuse (w ∷ []) a e = absurd cc
 action_takes keys.Refuse (w ∷ x ∷ y ∷ ws) a e = absurd cc
@@ -148,6 +151,7 @@ key_of (malloc letter name size) = keys.Malloc
 key_of (free letter name) = keys.Free
 key_of (poke name offset bytes) = keys.Poke
 key_of (peek name offset count) = keys.Peek
+key_of heap = keys.Heap
 key_of (refuse side number) = keys.Refuse
 key_of other = keys.Acquire
 
@@ -158,6 +162,7 @@ operands_of (malloc letter name size) = letter_word letter ∷ name ∷ decimal 
 operands_of (free letter name) = letter_word letter ∷ name ∷ []
 operands_of (poke name offset bytes) = name ∷ signed_decimal offset ∷ hex_word bytes ∷ []
 operands_of (peek name offset count) = name ∷ signed_decimal offset ∷ decimal count ∷ []
+operands_of heap = []
 operands_of (refuse side number) = side_word side ∷ decimal number ∷ []
 operands_of other = []
 
@@ -168,6 +173,7 @@ words_are (malloc letter name size) fits = refl
 words_are (free letter name) fits = refl
 words_are (poke name offset bytes) fits = refl
 words_are (peek name offset count) fits = refl
+words_are heap fits = refl
 words_are (refuse side number) fits = refl
 words_are other fits = absurd fits
 
@@ -186,6 +192,6 @@ action_again (malloc letter name size) fits = rw (letter_again letter, name_agai
 action_again (free letter name) fits = rw (letter_again letter, name_again name fits) refl
 action_again (poke name offset bytes) fits = rw (name_again name fits.0, offset_again offset fits.1, hex_again bytes fits.2 fits.3 fits.4, fits.5) refl
 action_again (peek name offset count) fits = rw (name_again name fits.0, offset_again offset fits.1, ranged_again 1 MAX_REACH count (lit< tt) fits.2 fits.3) refl
-action_again (refuse sides.Raw number) fits = rw (side_again, ranged_again 1 MAX_REFUSAL number (lit< tt) fits.0 fits.1) refl
-action_again (refuse sides.Arena number) fits = absurd fits
+action_again heap fits = refl
+action_again (refuse side number) fits = rw (side_again side, ranged_again 1 MAX_REFUSAL number (lit< tt) fits.0 fits.1) refl
 action_again other fits = absurd fits

@@ -4,7 +4,7 @@ use Rattle.std.specs.Prelude.{◌==◌}
 use Rattle.std.specs.List.{AllByRecursion, list_all, list_any, slice_split, join_with_byte}
 use Rattle.std.proofs.lemmas.Bool.{eqb-true}
 use Rattle.std.proofs.lemmas.List.Splits.{join_with_byte-slice_split}
-use Rattle.trace_model.specs.Plain.{Name, Action, acquire, release, malloc, free, poke, peek, refuse, other, PlainTrace}
+use Rattle.trace_model.specs.Plain.{Name, Action, acquire, release, malloc, free, poke, peek, heap, refuse, other, PlainTrace}
 use Rattle.trace_model.specs.Spelling.{is_between, is_name, line_of, track_line, Fits}
 use Rattle.trace_model.specs.declared.keyword.Keyword.{Keyword}
 use Rattle.trace_model.specs.declared.keyword.Keyword.TheVariants as keys
@@ -38,6 +38,7 @@ by_item t u keys.Malloc ws placed e = acted t u keys.Malloc ws placed e
 by_item t u keys.Free ws placed e = acted t u keys.Free ws placed e
 by_item t u keys.Poke ws placed e = acted t u keys.Poke ws placed e
 by_item t u keys.Peek ws placed e = acted t u keys.Peek ws placed e
+by_item t u keys.Heap ws placed e = acted t u keys.Heap ws placed e
 by_item t u keys.Refuse ws placed e = acted t u keys.Refuse ws placed e
 
 pub line_takes : (t u : PlainTrace) (line : List ℕ) → line_at t line ≡ Ok u → Adds t u line
@@ -78,6 +79,7 @@ known keys.Malloc = refl
 known keys.Free = refl
 known keys.Poke = refl
 known keys.Peek = refl
+known keys.Heap = refl
 known keys.Refuse = refl
 
 -- a line of good words is read by its keyword
@@ -99,6 +101,7 @@ placed t (malloc letter name size) some = some
 placed t (free letter name) some = some
 placed t (poke name offset bytes) some = some
 placed t (peek name offset count) some = some
+placed t heap some = some
 placed t (refuse side number) some = some
 placed t other some = some
 
@@ -109,6 +112,7 @@ item t u (malloc letter name size) h added = ap (λ r. r >>= λ b. add t b) h �
 item t u (free letter name) h added = ap (λ r. r >>= λ b. add t b) h ∙ added
 item t u (poke name offset bytes) h added = ap (λ r. r >>= λ b. add t b) h ∙ added
 item t u (peek name offset count) h added = ap (λ r. r >>= λ b. add t b) h ∙ added
+item t u heap h added = ap (λ r. r >>= λ b. add t b) h ∙ added
 item t u (refuse side number) h added = ap (λ r. r >>= λ b. add t b) h ∙ added
 item t u other h added = ap (λ r. r >>= λ b. add t b) h ∙ added
 

@@ -15,7 +15,7 @@ use Rattle.mem_base.specs.declared.trace.Side.TheVariants as sides
 use Rattle.block_model.specs.Block.{IsOffset}
 use Rattle.trace_model.specs.Spelling.{is_between, is_name, letter_word, side_word, hex_word, glyph}
 use Rattle.trace_model.specs.declared.cause.TraceCause.{TraceCause}
-use Rattle.trace_model.specs.declared.cause.TraceCause.TheVariants.{BadNumber, BadRange, BadName, UnknownWord}
+use Rattle.trace_model.specs.declared.cause.TraceCause.TheVariants.{BadNumber, BadRange, BadName}
 use Rattle.trace_model.specs.Reading.{◌>>=◌, digits_from, number_at, forward_at, backward_at, offset_at, number_in, name_at, letter_at, side_at, digit_of, joined, hex_from}
 
 -- the value of a step that did not fail
@@ -215,16 +215,17 @@ letter_again Raw = refl
 letter_again Mem = refl
 letter_again Obj = refl
 
--- one side alone is read
-pub side_takes : (w : List ℕ) (s : Side) → side_at w ≡ Ok s → (w ≡ side_word sides.Raw) × (s ≡ sides.Raw)
+pub side_takes : (w : List ℕ) (s : Side) → side_at w ≡ Ok s → w ≡ side_word s
 unfolding side_at
-side_takes w s e =
-    let p = passed (bytes_eq w (side_word sides.Raw)) (Ok sides.Raw) UnknownWord s e in
-    ((bytes_eq-Decides w (side_word sides.Raw)).0 p.0, sym (ok_is sides.Raw s p.1))
+side_takes w s e = elim (chosen side_word w sides.Arena _ s e) [
+  | inl h ↦ h
+  | inr e1 ↦ elim (chosen side_word w sides.Raw _ s e1) [ inl h ↦ h | inr e2 ↦ absurd cc ]
+]
 
-pub side_again : side_at (side_word sides.Raw) ≡ Ok sides.Raw
+pub side_again : (s : Side) → side_at (side_word s) ≡ Ok s
 unfolding side_at
-side_again = refl
+side_again sides.Arena = refl
+side_again sides.Raw = refl
 
 -- ---- bytes in hexadecimal
 

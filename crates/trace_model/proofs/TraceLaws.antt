@@ -1,5 +1,5 @@
 -- What is read is spelled so, and what is spelled so is read.
-use Rattle.std.proofs.Common.{◌≡◌, ℕ, ◌+◌, ◌<◌, ◌≤◌, Bool, true, false, cond, List, [], ◌∷◌, ◌++◌, length, Result, Ok, Err, refl, sym, ap, subst, ◌∙◌, append_assoc, append-nil, arith, length-append, lit<}
+use Rattle.std.proofs.Common.{◌≡◌, ℕ, ◌+◌, ◌<◌, ◌≤◌, Bool, true, false, cond, not, ◌&&◌, ◌||◌, List, [], ◌∷◌, ◌++◌, length, Result, Ok, Err, refl, sym, ap, subst, ◌∙◌, append_assoc, append-nil, arith, length-append, lit<}
 use Rattle.std.specs.Prelude.{◌==◌, nat_lt, codes}
 use Rattle.std.specs.List.{AllByRecursion, list_all, list_any, slice_split, join_with_byte}
 use Rattle.std.specs.Str.{bytes_eq}
@@ -8,17 +8,17 @@ use Rattle.std.proofs.lemmas.List.{nil_from_length}
 use Rattle.std.proofs.lemmas.List.Concat.{flat_map-cons}
 use Rattle.std.proofs.lemmas.List.Splits.{join_with_byte-slice_split}
 use Rattle.std.proofs.lemmas.Slice.Eq.{bytes_eq-Decides}
-use Rattle.mem_base.specs.declared.limits.TheConstants.{MAX_OPS}
+use Rattle.mem_base.specs.declared.limits.TheConstants.{MAX_OPS, MAX_REPORTS}
 use Rattle.trace_model.specs.Plain.{Name, Action, PlainTrack, PlainTrace}
-use Rattle.trace_model.specs.Spelling.{is_between, is_name, line_of, track_line, ended, action_lines, track_lines, action_count, header, spelling, line_end, Fits, FitsTrack, IsWellFormed}
+use Rattle.trace_model.specs.Spelling.{is_between, is_name, line_of, track_line, ended, action_lines, track_lines, action_count, is_report, reports_in, report_count, header, spelling, line_end, Fits, FitsTrack, IsWellFormed}
 use Rattle.trace_model.specs.declared.cause.TraceCause.{TraceCause}
 use Rattle.trace_model.specs.declared.cause.TraceCause.TheVariants.{BadEnd, BadHeader, SameTrack, TooMany}
-use Rattle.trace_model.specs.Reading.{Place, then_lines, line_at, lines_at, header_at, trace_at, opening, is_empty, start, with_track, with_action, add}
-use Rattle.trace_model.proofs.OperandLaws.{passed, unpassed, ok_is}
+use Rattle.trace_model.specs.Reading.{Place, then_lines, line_at, lines_at, header_at, trace_at, opening, is_empty, start, with_track, with_action, has_room, add}
+use Rattle.trace_model.proofs.OperandLaws.{both, passed, unpassed, ok_is}
 use Rattle.trace_model.proofs.WordLaws.{words_plain, words_fit, track_words_fit, cut_first, not_sep}
 use Rattle.trace_model.proofs.LineLaws.{Adds, a_track, an_action, line_takes, action_line_again, track_line_again}
 use Rattle.trace_model.proofs.LineSteps.{with_header, with_line}
-use Rattle.trace_model.proofs.TrackLaws.{all_push, track_lines-one, new_track, count_of_new, length-with_action, action_count-with, fits_with, lines_with}
+use Rattle.trace_model.proofs.TrackLaws.{all_push, track_lines-one, new_track, count_of_new, reports_of_new, reports_in-cons, reports_in-push, room_kept, room_had, length-with_action, action_count-with, report_count-with, fits_with, lines_with}
 
 abbrev fine : PlainTrace → Result PlainTrace Place
 fine t = Ok t
@@ -40,6 +40,7 @@ started t u name named e well =
       record {
         one = omega (arith, length-append t.tracks (record { name = name; actions = [] } ∷ []));
         few = omega (arith, count_of_new t.tracks name, well.few);
+        reports = omega (arith, reports_of_new t.tracks name, well.reports);
         fits = all_push FitsTrack t.tracks (record { name = name; actions = [] }) well.fits fit;
       },
       new_track t.tracks name,
@@ -47,12 +48,14 @@ started t u name named e well =
 
 acted : (t u : PlainTrace) (a : Action) → Fits a → (length t.tracks == 0) ≡ false → add t a ≡ Ok u → IsWellFormed t → Grows t (line_of a) u
 acted t u a fits some e well =
-    let p = passed (nat_lt (action_count t.tracks) MAX_OPS) (Ok (record { tracks = with_action t.tracks a })) TooMany u e in
-    let room : action_count t.tracks < MAX_OPS = ltb-true _ _ p.0 in
+    let p = passed (has_room t a) (Ok (record { tracks = with_action t.tracks a })) TooMany u e in
+    let rooms = both (nat_lt (action_count t.tracks) MAX_OPS) (not (is_report a) || nat_lt (report_count t.tracks) MAX_REPORTS) p.0 in
+    let room : action_count t.tracks < MAX_OPS = ltb-true _ _ rooms.0 in
     subst (Grows t (line_of a)) (ok_is (record { tracks = with_action t.tracks a }) u p.1) (
       record {
         one = omega (arith, length-with_action t.tracks a, well.one);
         few = omega (arith, action_count-with t.tracks a some, room);
+        reports = omega (arith, report_count-with t.tracks a some, room_kept (is_report a) (report_count t.tracks) MAX_REPORTS rooms.1 well.reports);
         fits = fits_with t.tracks a fits well.fits;
       },
       lines_with t.tracks a some,
@@ -89,7 +92,7 @@ lines_take k t u (line ∷ next ∷ more) e well =
     )
 
 no_tracks : IsWellFormed opening
-no_tracks = record { one = omega arith; few = omega arith; fits = tt }
+no_tracks = record { one = omega arith; few = omega arith; reports = omega arith; fits = tt }
 
 pub trace_takes : (bytes : List ℕ) (t : PlainTrace) → trace_at bytes ≡ Ok t → IsWellFormed t × (bytes ≡ spelling t)
 unfolding trace_at
@@ -124,16 +127,21 @@ line_step k t u line rest plain read =
 abbrev one_track : Name → List Action → PlainTrace
 one_track name actions = record { tracks = record { name = name; actions = actions } ∷ [] }
 
-actions_again : (k : ℕ) (name : Name) (done todo : List Action) → AllByRecursion Fits todo → length done + length todo ≤ MAX_OPS
+actions_again : (k : ℕ) (name : Name) (done todo : List Action) → AllByRecursion Fits todo → length done + length todo ≤ MAX_OPS → reports_in done + reports_in todo ≤ MAX_REPORTS
     → lines_at k (one_track name done) (slice_split (λ b. b == 10) (action_lines todo)) ≡ Ok (one_track name (done ++ todo))
-actions_again k name done [] fits few = ap (λ (acts : List Action). fine (one_track name acts)) (sym (append-nil done))
-actions_again k name done (a ∷ todo) fits few =
+actions_again k name done [] fits few reports = ap (λ (acts : List Action). fine (one_track name acts)) (sym (append-nil done))
+actions_again k name done (a ∷ todo) fits few reports =
     let u : PlainTrace = one_track name (done ++ a ∷ []) in
-    let room : nat_lt (action_count (one_track name done).tracks) MAX_OPS ≡ true = lt-ltb _ _ (omega arith) in
+    let pushed = reports_in-push done a in
+    let counted = reports_in-cons a todo in
+    let for_all : nat_lt (action_count (one_track name done).tracks) MAX_OPS ≡ true = lt-ltb _ _ (omega arith) in
+    let for_reports : (not (is_report a) || nat_lt (report_count (one_track name done).tracks) MAX_REPORTS) ≡ true =
+    room_had (is_report a) (report_count (one_track name done).tracks) MAX_REPORTS (omega arith) in
+    let room : has_room (one_track name done) a ≡ true = (λ i. for_all i && for_reports i) in
     let added : add (one_track name done) a ≡ Ok u = ap (λ (v : Bool). cond v (Ok u) (Err TooMany)) room in
     ap (λ (x : List ℕ). lines_at k (one_track name done) (slice_split (λ b. b == 10) x)) (flat_map-cons (λ b. ended (line_of b)) a todo)
     ∙ line_step k (one_track name done) u (line_of a) (action_lines todo) (words_plain _ (words_fit a fits.0)) (action_line_again (one_track name done) u a fits.0 refl added)
-    ∙ actions_again (k + 1) name (done ++ a ∷ []) todo fits.1 (omega (arith, length-append done (a ∷ [])))
+    ∙ actions_again (k + 1) name (done ++ a ∷ []) todo fits.1 (omega (arith, length-append done (a ∷ []))) (omega arith)
     ∙ ap (λ (acts : List Action). fine (one_track name acts)) (append_assoc done (a ∷ []) todo)
 
 tracks_again : (ts : List PlainTrack) → IsWellFormed (record { tracks = ts }) → lines_at 2 opening (slice_split (λ b. b == 10) (track_lines ts)) ≡ Ok (record { tracks = ts })
@@ -143,7 +151,7 @@ tracks_again (t ∷ []) well =
     let fits = well.fits.0 in
     ap (λ (x : List ℕ). lines_at 2 opening (slice_split (λ b. b == 10) x)) (track_lines-one t)
     ∙ line_step 2 opening (one_track t.name []) (track_line t.name) (action_lines t.actions) (words_plain (codes "track" ∷ t.name ∷ []) (track_words_fit t.name fits.name)) (track_line_again opening (one_track t.name []) t.name fits.name refl)
-    ∙ actions_again 3 t.name [] t.actions fits.actions (omega (arith, well.few))
+    ∙ actions_again 3 t.name [] t.actions fits.actions (omega (arith, well.few)) (omega (arith, well.reports))
 
 pub trace_again : (t : PlainTrace) → IsWellFormed t → trace_at (spelling t) ≡ Ok t
 unfolding trace_at

@@ -1,13 +1,13 @@
 -- What one more track and one more operation add to a trace's spelling.
-use Rattle.std.proofs.Common.{◌≡◌, ℕ, suc, ◌+◌, Bool, true, false, List, [], ◌∷◌, ◌++◌, length, refl, sym, ap, ◌∙◌, append_assoc, append-nil, arith, length-append, true≢false}
-use Rattle.std.specs.Prelude.{◌==◌}
+use Rattle.std.proofs.Common.{◌≡◌, ℕ, suc, ◌+◌, ◌<◌, ◌≤◌, Bool, true, false, cond, not, ◌||◌, List, [], ◌∷◌, ◌++◌, length, refl, sym, ap, ◌∙◌, append_assoc, append-nil, arith, length-append, true≢false}
+use Rattle.std.specs.Prelude.{◌==◌, nat_lt}
 use Rattle.std.specs.List.{AllByRecursion}
-use Rattle.std.proofs.lemmas.Bool.{eqb-true}
+use Rattle.std.proofs.lemmas.Bool.{eqb-true, ltb-true, lt-ltb}
 use Rattle.std.proofs.lemmas.List.Concat.{flat_map-cons}
 use Rattle.std.proofs.lemmas.List.Sums.{sum_by-cons, sum_by-append}
 use Rattle.std.proofs.lemmas.Grind.{flat_map-append}
 use Rattle.trace_model.specs.Plain.{Name, Action, PlainTrack}
-use Rattle.trace_model.specs.Spelling.{line_of, track_line, ended, action_lines, track_lines, action_count, Fits, FitsTrack}
+use Rattle.trace_model.specs.Spelling.{line_of, track_line, ended, action_lines, track_lines, action_count, is_report, reports_in, report_count, Fits, FitsTrack}
 use Rattle.trace_model.specs.Reading.{with_action}
 
 pub all_push : {X : Type 0} (P : X → Type 0) (xs : List X) (x : X) → AllByRecursion P xs → P x → AllByRecursion P (xs ++ x ∷ [])
@@ -35,6 +35,35 @@ count_of_new ts name =
     let both = sum_by-append (λ t. length t.actions) ts (record { name = name; actions = [] } ∷ []) in
     omega (arith, both)
 
+pub reports_of_new : (ts : List PlainTrack) (name : Name) → report_count (ts ++ record { name = name; actions = [] } ∷ []) ≡ report_count ts
+reports_of_new ts name =
+    let both = sum_by-append (λ t. reports_in t.actions) ts (record { name = name; actions = [] } ∷ []) in
+    omega (arith, both)
+
+-- ---- operations that print more than a reply
+
+-- how many of these an operation is
+abbrev pub reports_of : Action → ℕ
+reports_of a = cond (is_report a) 1 0
+
+pub reports_in-cons : (a : Action) (actions : List Action) → reports_in (a ∷ actions) ≡ reports_of a + reports_in actions
+reports_in-cons a actions = sum_by-cons reports_of a actions
+
+pub reports_in-push : (actions : List Action) (a : Action) → reports_in (actions ++ a ∷ []) ≡ reports_in actions + reports_of a
+reports_in-push actions a = sum_by-append reports_of actions (a ∷ []) ∙ omega arith
+
+-- with room for one more, the count stays within the limit
+pub room_kept : (report : Bool) (count most : ℕ) → (not report || nat_lt count most) ≡ true → count ≤ most → count + cond report 1 0 ≤ most
+room_kept true count most room few =
+    let below : count < most = ltb-true count most room in
+    omega arith
+room_kept false count most room few = omega arith
+
+-- a count that stays within the limit had room
+pub room_had : (report : Bool) (count most : ℕ) → count + cond report 1 0 ≤ most → (not report || nat_lt count most) ≡ true
+room_had true count most few = lt-ltb count most (omega arith)
+room_had false count most few = refl
+
 -- ---- one more operation of the last track
 
 pub suc_not_zero : (n : ℕ) → (suc n == 0) ≡ false
@@ -57,6 +86,13 @@ action_count-with (t ∷ []) a some = omega (arith, length-append t.actions (a �
 action_count-with (t ∷ u ∷ ts) a some =
     let f = λ (v : PlainTrack). length v.actions in
     omega (arith, sum_by-cons f t (with_action (u ∷ ts) a), sum_by-cons f t (u ∷ ts), action_count-with (u ∷ ts) a (suc_not_zero (length ts)))
+
+pub report_count-with : (ts : List PlainTrack) (a : Action) → (length ts == 0) ≡ false → report_count (with_action ts a) ≡ report_count ts + reports_of a
+report_count-with [] a some = absurd (true≢false some)
+report_count-with (t ∷ []) a some = omega (arith, reports_in-push t.actions a)
+report_count-with (t ∷ u ∷ ts) a some =
+    let f = λ (v : PlainTrack). reports_in v.actions in
+    omega (arith, sum_by-cons f t (with_action (u ∷ ts) a), sum_by-cons f t (u ∷ ts), report_count-with (u ∷ ts) a (suc_not_zero (length ts)))
 
 pub fits_with : (ts : List PlainTrack) (a : Action) → Fits a → AllByRecursion FitsTrack ts → AllByRecursion FitsTrack (with_action ts a)
 fits_with [] a fit fits = tt

@@ -8,10 +8,11 @@ use Rattle.std.proofs.lemmas.Fmt.{digits_decimal, decimal_nonempty}
 use Rattle.std.proofs.lemmas.List.Splits.{slice_split-cons_no}
 use Rattle.mem_base.specs.declared.trace.Letter.{Letter}
 use Rattle.mem_base.specs.declared.trace.Letter.TheVariants.{Raw, Mem, Obj}
+use Rattle.mem_base.specs.declared.trace.Side.{Side}
 use Rattle.mem_base.specs.declared.trace.Side.TheVariants as sides
-use Rattle.trace_model.specs.Plain.{Name, Action, acquire, release, malloc, free, poke, peek, refuse, other}
+use Rattle.trace_model.specs.Plain.{Name, Action, acquire, release, malloc, free, poke, peek, heap, refuse, other}
 use Rattle.block_model.specs.Block.{IsOffset}
-use Rattle.trace_model.specs.Spelling.{is_between, is_name, is_name_byte, letter_word, hex_word, glyph, words_of, Fits}
+use Rattle.trace_model.specs.Spelling.{is_between, is_name, is_name_byte, letter_word, side_word, hex_word, glyph, words_of, Fits}
 use Rattle.trace_model.proofs.OperandLaws.{are_digits, own, both, low, high, between, whole}
 
 abbrev pub has_some : List ℕ → Bool
@@ -95,6 +96,10 @@ letter_is_word Raw = refl
 letter_is_word Mem = refl
 letter_is_word Obj = refl
 
+side_is_word : (s : Side) → is_word (side_word s) ≡ true
+side_is_word sides.Arena = refl
+side_is_word sides.Raw = refl
+
 pub words_fit : (a : Action) → Fits a → AllByRecursion (λ w. is_word w ≡ true) (words_of a)
 words_fit acquire fits = (refl, tt)
 words_fit release fits = (refl, tt)
@@ -102,8 +107,8 @@ words_fit (malloc letter name size) fits = (refl, (letter_is_word letter, (name_
 words_fit (free letter name) fits = (refl, (letter_is_word letter, (name_word name fits, tt)))
 words_fit (poke name offset bytes) fits = (refl, (name_word name fits.0, (offset_word offset fits.1, (hex_is_word bytes fits.2 fits.3, tt))))
 words_fit (peek name offset count) fits = (refl, (name_word name fits.0, (offset_word offset fits.1, (number_word count (omega (arith, fits.3)), tt))))
-words_fit (refuse sides.Raw number) fits = (refl, (refl, (number_word number (omega (arith, fits.1)), tt)))
-words_fit (refuse sides.Arena number) fits = absurd fits
+words_fit heap fits = (refl, tt)
+words_fit (refuse side number) fits = (refl, (side_is_word side, (number_word number (omega (arith, fits.1)), tt)))
 words_fit other fits = absurd fits
 
 pub track_words_fit : (name : Name) → is_name name ≡ true → AllByRecursion (λ w. is_word w ≡ true) (codes "track" ∷ name ∷ [])

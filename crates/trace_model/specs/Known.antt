@@ -4,8 +4,7 @@ use Rattle.std.specs.Option.{option_and_then}
 use Rattle.mem_base.specs.declared.limits.TheConstants.{MAX_OPS, MAX_REACH, MAX_REFUSAL, MAX_TRACKS}
 use Rattle.mem_base.specs.declared.texts.TextId.{TextId}
 use Rattle.mem_base.specs.declared.trace.Op.{Op}
-use Rattle.mem_base.specs.declared.trace.Op.TheVariants.{Acquire, Release, Malloc, Free, Poke, Peek, Refuse}
-use Rattle.mem_base.specs.declared.trace.Side.TheVariants as sides
+use Rattle.mem_base.specs.declared.trace.Op.TheVariants.{Acquire, Release, Malloc, Free, Poke, Peek, Heap, Refuse}
 use Rattle.mem_base.specs.declared.trace.Track.{Track}
 use Rattle.mem_base.specs.declared.trace.Trace.{Trace}
 use Rattle.trace_model.specs.Plain.{Name}
@@ -23,7 +22,8 @@ IsKnownAmong texts (Malloc letter name size) = name.0 < texts
 IsKnownAmong texts (Free letter name) = name.0 < texts
 IsKnownAmong texts (Poke name offset bytes) = (name.0 < texts) × IsOffset offset × (1 ≤ length bytes) × (length bytes ≤ MAX_REACH)
 IsKnownAmong texts (Peek name offset count) = (name.0 < texts) × IsOffset offset × (1 ≤ count) × (count ≤ MAX_REACH)
-IsKnownAmong texts (Refuse sides.Raw number) = (1 ≤ number) × (number ≤ MAX_REFUSAL)
+IsKnownAmong texts Heap = Unit {0}
+IsKnownAmong texts (Refuse side number) = (1 ≤ number) × (number ≤ MAX_REFUSAL)
 IsKnownAmong texts op = ⊥
 
 -- one of the operations that a trace may have, with its name in the table

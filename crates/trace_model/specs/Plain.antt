@@ -20,6 +20,7 @@ pub data Action : Type 0 where
   free : Letter → Name → Action
   poke : Name → ℤ → List ℕ → Action
   peek : Name → ℤ → ℕ → Action
+  heap : Action
   refuse : Side → ℕ → Action
   other : Action
 
@@ -45,6 +46,7 @@ action_of texts (code.Malloc letter name size) = malloc letter (text_at texts na
 action_of texts (code.Free letter name) = free letter (text_at texts name)
 action_of texts (code.Poke name offset bytes) = poke (text_at texts name) offset bytes
 action_of texts (code.Peek name offset count) = peek (text_at texts name) offset count
+action_of texts code.Heap = heap
 action_of texts (code.Refuse side number) = refuse side number
 action_of texts op = other
 

@@ -1,14 +1,14 @@
 -- Reading a trace line by line, up to the first faulty line and its first fault.
-use Rattle.std.specs.Prelude.{ℕ, zero, suc, ◌+◌, ◌-◌, ◌*◌, ◌^◌, ℤ, pos, negsuc, Bool, true, false, not, ◌&&◌, nat_lt, ◌==◌, if◌then◌else◌, List, [], ◌∷◌, ◌++◌, length, Option, Some, None, Result, Ok, Err, codes}
+use Rattle.std.specs.Prelude.{ℕ, zero, suc, ◌+◌, ◌-◌, ◌*◌, ◌^◌, ℤ, pos, negsuc, Bool, true, false, not, ◌&&◌, ◌||◌, nat_lt, ◌==◌, if◌then◌else◌, List, [], ◌∷◌, ◌++◌, length, Option, Some, None, Result, Ok, Err, codes}
 use Rattle.std.specs.List.{list_all, list_any, slice_split}
 use Rattle.std.specs.Str.{bytes_eq}
-use Rattle.mem_base.specs.declared.limits.TheConstants.{MAX_OPS, MAX_REACH, MAX_REFUSAL}
+use Rattle.mem_base.specs.declared.limits.TheConstants.{MAX_OPS, MAX_REACH, MAX_REFUSAL, MAX_REPORTS}
 use Rattle.mem_base.specs.declared.trace.Letter.{Letter}
 use Rattle.mem_base.specs.declared.trace.Letter.TheVariants.{Raw, Mem, Obj}
 use Rattle.mem_base.specs.declared.trace.Side.{Side}
 use Rattle.mem_base.specs.declared.trace.Side.TheVariants as sides
-use Rattle.trace_model.specs.Plain.{Name, Action, acquire, release, malloc, free, poke, peek, refuse, PlainTrack, PlainTrace}
-use Rattle.trace_model.specs.Spelling.{blank, line_end, is_between, is_name, is_forged, letter_word, side_word, action_count, header}
+use Rattle.trace_model.specs.Plain.{Name, Action, acquire, release, malloc, free, poke, peek, heap, refuse, PlainTrack, PlainTrace}
+use Rattle.trace_model.specs.Spelling.{blank, line_end, is_between, is_name, is_forged, letter_word, side_word, action_count, is_report, report_count, header}
 use Rattle.trace_model.specs.declared.cause.TraceCause.{TraceCause}
 use Rattle.trace_model.specs.declared.cause.TraceCause.TheVariants.{BadEnd, BadHeader, BadByte, UnknownWord, Misplaced, BadWords, BadNumber, BadHex, BadName, BadRange, ForgedLetter, SameTrack, TooMany}
 use Rattle.trace_model.specs.declared.keyword.Keyword.{Keyword}
@@ -70,9 +70,12 @@ letter_at w =
     else if bytes_eq w (letter_word Obj) then Ok Obj
     else Err UnknownWord
 
--- the source that refuses: until there are arenas, that of raw memory alone
+-- the source that refuses
 unfoldable pub side_at : List ℕ → Result Side TraceCause
-side_at w = if bytes_eq w (side_word sides.Raw) then Ok sides.Raw else Err UnknownWord
+side_at w =
+    if bytes_eq w (side_word sides.Arena) then Ok sides.Arena
+    else if bytes_eq w (side_word sides.Raw) then Ok sides.Raw
+    else Err UnknownWord
 
 -- the value of a hexadecimal digit
 abbrev pub digit_of : ℕ → Option ℕ
@@ -106,6 +109,7 @@ keyword_text keys.Malloc = codes "malloc"
 keyword_text keys.Free = codes "free"
 keyword_text keys.Poke = codes "poke"
 keyword_text keys.Peek = codes "peek"
+keyword_text keys.Heap = codes "heap"
 keyword_text keys.Refuse = codes "refuse"
 
 abbrev pub keyword_at : List ℕ → Result Keyword TraceCause
@@ -117,6 +121,7 @@ keyword_at w =
     else if bytes_eq w (keyword_text keys.Free) then Ok keys.Free
     else if bytes_eq w (keyword_text keys.Poke) then Ok keys.Poke
     else if bytes_eq w (keyword_text keys.Peek) then Ok keys.Peek
+    else if bytes_eq w (keyword_text keys.Heap) then Ok keys.Heap
     else if bytes_eq w (keyword_text keys.Refuse) then Ok keys.Refuse
     else Err UnknownWord
 
@@ -174,6 +179,8 @@ action_at keys.Poke (name ∷ offset ∷ digits ∷ []) = poke_at name offset di
 action_at keys.Poke ws = Err BadWords
 action_at keys.Peek (name ∷ offset ∷ count ∷ []) = peek_at name offset count
 action_at keys.Peek ws = Err BadWords
+action_at keys.Heap [] = Ok heap
+action_at keys.Heap ws = Err BadWords
 action_at keys.Refuse (side ∷ number ∷ []) = refuse_at side number
 action_at keys.Refuse ws = Err BadWords
 
@@ -207,9 +214,13 @@ with_action [] a = []
 with_action (t ∷ []) a = record { name = t.name; actions = t.actions ++ a ∷ [] } ∷ []
 with_action (t ∷ u ∷ ts) a = t ∷ with_action (u ∷ ts) a
 
+-- there is room for one more operation, and for one that prints more than a reply where this is one
+abbrev pub has_room : PlainTrace → Action → Bool
+has_room t a = nat_lt (action_count t.tracks) MAX_OPS && (not (is_report a) || nat_lt (report_count t.tracks) MAX_REPORTS)
+
 -- the trace with one more operation of its last track
 abbrev pub add : PlainTrace → Action → Result PlainTrace TraceCause
-add t a = if nat_lt (action_count t.tracks) MAX_OPS then Ok (record { tracks = with_action t.tracks a }) else Err TooMany
+add t a = if has_room t a then Ok (record { tracks = with_action t.tracks a }) else Err TooMany
 
 abbrev pub item_at : PlainTrace → Keyword → List (List ℕ) → Result PlainTrace TraceCause
 item_at t keys.Track ws = start_at t ws

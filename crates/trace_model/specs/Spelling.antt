@@ -1,15 +1,15 @@
 -- The one spelling of a trace, and the traces that have one.
-use Rattle.std.specs.Prelude.{◌≡◌, ℕ, ◌+◌, ◌/◌, ◌%◌, ◌^◌, ◌<◌, ◌≤◌, ℤ, negsuc, Bool, false, ◌&&◌, ◌||◌, nat_le, nat_lt, ◌==◌, if◌then◌else◌, List, [], ◌∷◌, ◌++◌, length, sum_by, codes, decimal, IsTrue}
+use Rattle.std.specs.Prelude.{◌≡◌, ℕ, ◌+◌, ◌/◌, ◌%◌, ◌^◌, ◌<◌, ◌≤◌, ℤ, negsuc, Bool, true, false, ◌&&◌, ◌||◌, nat_le, nat_lt, ◌==◌, if◌then◌else◌, List, [], ◌∷◌, ◌++◌, length, sum_by, codes, decimal, IsTrue}
 use Rattle.std.specs.List.{AllByRecursion, flat_map, list_all, join_with_byte}
 use Rattle.std.specs.Fmt.{signed_decimal}
 use Rattle.block_model.specs.Block.{IsOffset}
-use Rattle.mem_base.specs.declared.limits.TheConstants.{MAX_NAME, MAX_OPS, MAX_REACH, MAX_REFUSAL}
+use Rattle.mem_base.specs.declared.limits.TheConstants.{MAX_NAME, MAX_OPS, MAX_REACH, MAX_REFUSAL, MAX_REPORTS}
 use Rattle.mem_base.specs.declared.trace.Letter.{Letter}
 use Rattle.mem_base.specs.declared.trace.Letter.TheVariants.{Raw, Mem, Obj}
 use Rattle.mem_base.specs.declared.trace.Side.{Side}
 use Rattle.mem_base.specs.declared.trace.Side.TheVariants as sides
 use Rattle.mem_base.specs.Letter.{letter_byte}
-use Rattle.trace_model.specs.Plain.{Name, Action, acquire, release, malloc, free, poke, peek, refuse, other, PlainTrack, PlainTrace}
+use Rattle.trace_model.specs.Plain.{Name, Action, acquire, release, malloc, free, poke, peek, heap, refuse, other, PlainTrack, PlainTrace}
 
 -- what parts the words of a line
 abbrev pub blank : ℕ
@@ -59,6 +59,7 @@ words_of (malloc letter name size) = codes "malloc" ∷ letter_word letter ∷ n
 words_of (free letter name) = codes "free" ∷ letter_word letter ∷ name ∷ []
 words_of (poke name offset bytes) = codes "poke" ∷ name ∷ signed_decimal offset ∷ hex_word bytes ∷ []
 words_of (peek name offset count) = codes "peek" ∷ name ∷ signed_decimal offset ∷ decimal count ∷ []
+words_of heap = codes "heap" ∷ []
 words_of (refuse side number) = codes "refuse" ∷ side_word side ∷ decimal number ∷ []
 words_of other = []
 
@@ -106,9 +107,8 @@ Fits (malloc letter name size) = IsTrue (is_name name) × (size < 2 ^ 64)
 Fits (free letter name) = IsTrue (is_name name)
 Fits (poke name offset bytes) = IsTrue (is_name name) × IsOffset offset × AllByRecursion (λ b. b < 256) bytes × (1 ≤ length bytes) × (length bytes ≤ MAX_REACH) × (is_forged offset bytes ≡ false)
 Fits (peek name offset count) = IsTrue (is_name name) × IsOffset offset × (1 ≤ count) × (count ≤ MAX_REACH)
-Fits (refuse sides.Raw number) = (1 ≤ number) × (number ≤ MAX_REFUSAL)
--- until there are arenas, no request for one can be refused
-Fits (refuse sides.Arena number) = ⊥
+Fits heap = Unit {0}
+Fits (refuse side number) = (1 ≤ number) × (number ≤ MAX_REFUSAL)
 Fits other = ⊥
 
 pub record FitsTrack (t : PlainTrack) : Type 0 where
@@ -119,8 +119,22 @@ pub record FitsTrack (t : PlainTrack) : Type 0 where
 abbrev pub action_count : List PlainTrack → ℕ
 action_count tracks = sum_by (λ t. length t.actions) tracks
 
+-- an operation that prints more than a reply
+abbrev pub is_report : Action → Bool
+is_report heap = true
+is_report a = false
+
+-- how many of a track's operations print more than a reply
+abbrev pub reports_in : List Action → ℕ
+reports_in actions = sum_by (λ a. if is_report a then 1 else 0) actions
+
+-- the same over all tracks
+abbrev pub report_count : List PlainTrack → ℕ
+report_count tracks = sum_by (λ t. reports_in t.actions) tracks
+
 -- at most one track until there may be several, and not too many operations
 pub record IsWellFormed (t : PlainTrace) : Type 0 where
   pub one : length t.tracks ≤ 1
   pub few : action_count t.tracks ≤ MAX_OPS
+  pub reports : report_count t.tracks ≤ MAX_REPORTS
   pub fits : AllByRecursion FitsTrack t.tracks

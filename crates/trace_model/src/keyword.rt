@@ -8,5 +8,6 @@ pub enum Keyword {
     Free,
     Poke,
     Peek,
+    Heap,
     Refuse,
 }

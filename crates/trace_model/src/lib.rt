@@ -12,7 +12,8 @@
 //! | `free D NAME` | domain, block |
 //! | `poke NAME OFF HEX` | block, offset from -8 on, 1 to 1024 bytes |
 //! | `peek NAME OFF NUM` | block, offset from -8 on, 1 to 1024 |
-//! | `refuse raw NUM` | which request for raw memory is refused, 1 (the next one) to 1,000,000 |
+//! | `heap` | none; at most 1,024 of them |
+//! | `refuse SIDE NUM` | `arena` or `raw`, and which request of that source is refused, 1 (the next one) to 1,000,000 |
 #![tactic(auto)]
 
 mod cause;

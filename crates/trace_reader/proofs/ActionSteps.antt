@@ -1,26 +1,26 @@
 -- An operation that was read is added to the trace.
-use Rattle.std.proofs.Common.{◌≡◌, ℕ, ◌+◌, ◌<◌, Bool, true, false, cond, List, [], ◌∷◌, ◌++◌, length, Option, Some, None, Result, Ok, Err, refl, sym, ap, subst, ◌∙◌, arith, length-append}
+use Rattle.std.proofs.Common.{◌≡◌, ℕ, ◌+◌, ◌<◌, Bool, true, false, cond, not, ◌&&◌, ◌||◌, List, [], ◌∷◌, ◌++◌, length, map, Option, Some, None, Result, Ok, Err, refl, sym, ap, subst, ◌∙◌, arith, length-append}
 use Rattle.std.specs.Prelude.{IsSome, OnOk, nat_lt}
 use Rattle.std.proofs.lemmas.Bool.{ltb-true}
 use Rattle.std.proofs.lemmas.List.{map-append, length-map}
-use Rattle.mem_base.specs.declared.limits.TheConstants.{MAX_OPS}
+use Rattle.mem_base.specs.declared.limits.TheConstants.{MAX_OPS, MAX_REPORTS}
 use Rattle.mem_base.specs.declared.texts.TextId.{TextId}
 use Rattle.mem_base.specs.declared.trace.Op.{Op}
 use Rattle.trace_model.specs.Plain.{Name, Action, PlainTrace, text_at, action_of}
-use Rattle.trace_model.specs.Spelling.{action_count}
+use Rattle.trace_model.specs.Spelling.{action_count, reports_in, report_count}
 use Rattle.trace_model.specs.Known.{IsKnownOp}
 use Rattle.trace_model.specs.Reading.{◌>>=◌, is_track, action_at, item_at, add, with_action}
 use Rattle.trace_model.specs.declared.cause.TraceCause.{TraceCause}
 use Rattle.trace_model.specs.declared.cause.TraceCause.TheVariants.{TooMany}
 use Rattle.trace_model.specs.declared.keyword.Keyword.{Keyword}
 use Rattle.trace_model.specs.declared.keyword.Keyword.TheVariants as keys
-use Rattle.trace_model.proofs.OperandLaws.{passed, ok_is}
-use Rattle.trace_model.proofs.TrackLaws.{all_push}
+use Rattle.trace_model.proofs.OperandLaws.{both, passed, ok_is}
+use Rattle.trace_model.proofs.TrackLaws.{all_push, reports_in-push, room_kept}
 use Rattle.trace_reader.specs.declared.error.LineError.{LineError}
 use Rattle.trace_reader.specs.declared.error.LineError.TheVariants as line
 use Rattle.trace_reader.specs.Answers.{Gives}
-use Rattle.trace_reader.specs.Progress.{Extends, so_far, IsKnownSoFar, pushed}
-use Rattle.trace_reader.proofs.Growth.{so_far_stays, ops_still_known}
+use Rattle.trace_reader.specs.Progress.{Extends, so_far, IsKnownSoFar, is_report_op, pushed}
+use Rattle.trace_reader.proofs.Growth.{so_far_stays, ops_still_known, report_is}
 
 by_action : (t : PlainTrace) (k : Keyword) (ws : List (List ℕ)) → is_track k ≡ false → item_at t k ws ≡ (action_at k ws >>= λ a. add t a)
 by_action t keys.Track ws other = absurd cc
@@ -30,32 +30,56 @@ by_action t keys.Malloc ws other = refl
 by_action t keys.Free ws other = refl
 by_action t keys.Poke ws other = refl
 by_action t keys.Peek ws other = refl
+by_action t keys.Heap ws other = refl
 by_action t keys.Refuse ws other = refl
 
-module _ (texts news : List Name) (name : TextId) (ops : List Op) (op : Op) (grows : Extends texts news) (known : IsKnownSoFar texts (Some name) ops) where
+counted : (report : Bool) (n : ℕ) → cond report (n + 1) n ≡ n + cond report 1 0
+counted true n = refl
+counted false n = omega arith
+
+module _ (texts news : List Name) (name : TextId) (ops : List Op) (reports : ℕ) (op : Op) (grows : Extends texts news) (known : IsKnownSoFar texts (Some name) ops reports) where
+  -- what push_op tests, and what it leaves
+  abbrev has_place : Bool
+  has_place = nat_lt (length ops) MAX_OPS && (not (is_report_op op) || nat_lt reports MAX_REPORTS)
+
+  abbrev one_more : List Op × ℕ
+  one_more = (ops ++ op ∷ [], cond (is_report_op op) (reports + 1) reports)
+
   count_is : action_count (so_far texts (Some name) ops).tracks ≡ length ops
   count_is = omega (arith, length-map ops (action_of texts))
 
+  reports_are : report_count (so_far texts (Some name) ops).tracks ≡ reports
+  reports_are = omega (arith, known.4)
+
   with_op : with_action (so_far texts (Some name) ops).tracks (action_of news op) ≡ (so_far news (Some name) (ops ++ op ∷ [])).tracks
   with_op =
-      ap (λ (t : PlainTrace). with_action t.tracks (action_of news op)) (sym (so_far_stays texts news (Some name) ops grows known))
+      ap (λ (t : PlainTrace). with_action t.tracks (action_of news op)) (sym (so_far_stays texts news (Some name) ops reports grows known))
       ∙ ap (λ (acts : List Action). record { name = text_at news name; actions = acts } ∷ []) (sym (map-append (action_of news) ops (op ∷ [])))
 
-  add_is : add (so_far texts (Some name) ops) (action_of news op) ≡ (pushed ops op >>= λ after. Ok (so_far news (Some name) after))
+  add_is : add (so_far texts (Some name) ops) (action_of news op) ≡ (pushed ops reports op >>= λ after. Ok (so_far news (Some name) after.0))
   add_is =
-      (λ i. cond (nat_lt (count_is i) MAX_OPS) (Ok (record { tracks = with_op i })) (Err TooMany)) ∙ by (nat_lt (length ops) MAX_OPS)
+      (λ i. cond (nat_lt (count_is i) MAX_OPS && (not (report_is news op i) || nat_lt (reports_are i) MAX_REPORTS)) (Ok (record { tracks = with_op i })) (Err TooMany)) ∙ by has_place
     where
-      by : (b : Bool) → cond b (Ok (so_far news (Some name) (ops ++ op ∷ []))) (Err TooMany) ≡ (cond b (Ok (ops ++ op ∷ [])) (Err TooMany) >>= λ after. Ok (so_far news (Some name) after))
+      by : (b : Bool) → cond b (Ok (so_far news (Some name) (ops ++ op ∷ []))) (Err TooMany) ≡ (cond b (Ok one_more) (Err TooMany) >>= λ after. Ok (so_far news (Some name) after.0))
       by true = refl
       by false = refl
 
-  pushed_known : (after : List Op) → IsKnownOp news op → pushed ops op ≡ Ok after → IsKnownSoFar news (Some name) after
+  pushed_known : (after : List Op × ℕ) → IsKnownOp news op → pushed ops reports op ≡ Ok after → IsKnownSoFar news (Some name) after.0 after.1
   pushed_known after fits is =
-      let p = passed (nat_lt (length ops) MAX_OPS) (Ok (ops ++ op ∷ [])) TooMany after is in
-      let room : length ops < MAX_OPS = ltb-true _ _ p.0 in
-      let still = ops_still_known texts news name ops grows known in
+      let p = passed has_place (Ok one_more) TooMany after is in
+      let rooms = both (nat_lt (length ops) MAX_OPS) (not (is_report_op op) || nat_lt reports MAX_REPORTS) p.0 in
+      let room : length ops < MAX_OPS = ltb-true _ _ rooms.0 in
+      let still = ops_still_known texts news name ops reports grows known in
       let len : length (ops ++ op ∷ []) ≡ length ops + 1 = length-append ops (op ∷ []) in
-      subst (IsKnownSoFar news (Some name)) (ok_is (ops ++ op ∷ []) after p.1) (still.0, all_push (IsKnownOp news) ops op still.1 fits, omega arith, omega (arith, still.2, len))
+      let next = counted (is_report_op op) reports in
+      subst (λ (x : List Op × ℕ). IsKnownSoFar news (Some name) x.0 x.1) (ok_is one_more after p.1) (
+        still.0,
+        all_push (IsKnownOp news) ops op still.1 fits,
+        omega arith,
+        omega (arith, still.2, len),
+        next ∙ (λ i. still.3 i + cond (sym (report_is news op) i) 1 0) ∙ sym (reports_in-push (map (action_of news) ops) (action_of news op)) ∙ ap reports_in (sym (map-append (action_of news) ops (op ∷ []))),
+        omega (arith, next, room_kept (is_report_op op) reports MAX_REPORTS rooms.1 known.5),
+      )
 
 -- what a step answers after another, if that answered as it should
 then_gives : {X Y : Type 0} (view : X → Y) (after : X) (r : Result (Unit {0}) LineError) (read : Result X TraceCause) → Gives (λ _. after) r read → Gives (λ _. view after) r (read >>= λ x. Ok (view x))
@@ -63,20 +87,20 @@ then_gives view after (Ok u) read is = ap (λ s. s >>= λ x. Ok (view x)) is
 then_gives view after (Err line.OutOfMemory) read is = tt
 then_gives view after (Err (line.Wrong c)) read is = ap (λ s. s >>= λ x. Ok (view x)) is
 
-pub acted_known : (texts news : List Name) (track : Option TextId) (ops after : List Op) (op : Op) (r : Result (Unit {0}) LineError) → IsSome track → Extends texts news → IsKnownSoFar texts track ops → IsKnownOp news op
-    → Gives (λ _. after) r (pushed ops op) → OnOk r (IsKnownSoFar news track after)
-acted_known texts news None ops after op r begun grows known fits is = absurd cc
-acted_known texts news (Some name) ops after op (Ok u) begun grows known fits is = pushed_known texts news name ops op grows known after fits is
-acted_known texts news (Some name) ops after op (Err e) begun grows known fits is = tt
+pub acted_known : (texts news : List Name) (track : Option TextId) (ops : List Op) (reports : ℕ) (after : List Op × ℕ) (op : Op) (r : Result (Unit {0}) LineError) → IsSome track → Extends texts news → IsKnownSoFar texts track ops reports → IsKnownOp news op
+    → Gives (λ _. after) r (pushed ops reports op) → OnOk r (IsKnownSoFar news track after.0 after.1)
+acted_known texts news None ops reports after op r begun grows known fits is = absurd cc
+acted_known texts news (Some name) ops reports after op (Ok u) begun grows known fits is = pushed_known texts news name ops reports op grows known after fits is
+acted_known texts news (Some name) ops reports after op (Err e) begun grows known fits is = tt
 
-pub acted_read : (k : Keyword) (ws : List (List ℕ)) (texts news : List Name) (track : Option TextId) (ops after : List Op) (op : Op) (r : Result (Unit {0}) LineError) → is_track k ≡ false → IsSome track → Extends texts news → IsKnownSoFar texts track ops
-    → action_at k ws ≡ Ok (action_of news op) → Gives (λ _. after) r (pushed ops op) → Gives (λ _. so_far news track after) r (item_at (so_far texts track ops) k ws)
-acted_read k ws texts news None ops after op r other begun grows known read is = absurd cc
-acted_read k ws texts news (Some name) ops after op r other begun grows known read is =
+pub acted_read : (k : Keyword) (ws : List (List ℕ)) (texts news : List Name) (track : Option TextId) (ops : List Op) (reports : ℕ) (after : List Op × ℕ) (op : Op) (r : Result (Unit {0}) LineError) → is_track k ≡ false → IsSome track → Extends texts news
+    → IsKnownSoFar texts track ops reports → action_at k ws ≡ Ok (action_of news op) → Gives (λ _. after) r (pushed ops reports op) → Gives (λ _. so_far news track after.0) r (item_at (so_far texts track ops) k ws)
+acted_read k ws texts news None ops reports after op r other begun grows known read is = absurd cc
+acted_read k ws texts news (Some name) ops reports after op r other begun grows known read is =
     let t = so_far texts (Some name) ops in
-    let whole : item_at t k ws ≡ (pushed ops op >>= λ l. Ok (so_far news (Some name) l)) =
-    by_action t k ws other ∙ ap (λ s. s >>= λ a. add t a) read ∙ add_is texts news name ops op grows known in
-    subst (Gives (λ _. so_far news (Some name) after) r) (sym whole) (then_gives (λ (l : List Op). so_far news (Some name) l) after r (pushed ops op) is)
+    let whole : item_at t k ws ≡ (pushed ops reports op >>= λ l. Ok (so_far news (Some name) l.0)) =
+    by_action t k ws other ∙ ap (λ s. s >>= λ a. add t a) read ∙ add_is texts news name ops reports op grows known in
+    subst (Gives (λ _. so_far news (Some name) after.0) r) (sym whole) (then_gives (λ (l : List Op × ℕ). so_far news (Some name) l.0) after r (pushed ops reports op) is)
 
 -- an operation that was not read stops the line
 pub stopped_read : (t : PlainTrace) (k : Keyword) (ws : List (List ℕ)) (c : TraceCause) → is_track k ≡ false → action_at k ws ≡ Err c → item_at t k ws ≡ Err c

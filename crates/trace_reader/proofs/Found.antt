@@ -33,30 +33,30 @@ op_known texts (o ∷ ops) zero op known is =
     subst (IsKnownOp texts) e known.0
 op_known texts (o ∷ ops) (suc at) op known is = op_known texts ops at op known.1 is
 
-known_name : (texts : List Name) (track : Option TextId) (ops : List Op) → IsKnownSoFar texts track ops → (t : ℕ) (found : Track) → slice_get (begun track ops) t ≡ Some found → IsKnown texts found.name
-known_name texts None ops known t found is = absurd cc
-known_name texts (Some name) ops known zero found is =
+known_name : (texts : List Name) (track : Option TextId) (ops : List Op) (reports : ℕ) → IsKnownSoFar texts track ops reports → (t : ℕ) (found : Track) → slice_get (begun track ops) t ≡ Some found → IsKnown texts found.name
+known_name texts None ops reports known t found is = absurd cc
+known_name texts (Some name) ops reports known zero found is =
     let first : Track = record { name = name; ops = ops } in
     let e : first ≡ found = cc in
     subst (λ (x : Track). IsKnown texts x.name) e known.0
-known_name texts (Some name) ops known (suc t) found is = absurd cc
+known_name texts (Some name) ops reports known (suc t) found is = absurd cc
 
-known_op : (texts : List Name) (track : Option TextId) (ops : List Op) → IsKnownSoFar texts track ops → (t at : ℕ) (op : Op) → op_at (begun track ops) t at ≡ Some op → IsKnownOp texts op × (at < MAX_OPS)
-known_op texts None ops known t at op is = absurd cc
-known_op texts (Some name) ops known zero at op is = (op_known texts ops at op known.1 is, omega (arith, slice_get_within ops at op is, known.2))
-known_op texts (Some name) ops known (suc t) at op is = absurd cc
+known_op : (texts : List Name) (track : Option TextId) (ops : List Op) (reports : ℕ) → IsKnownSoFar texts track ops reports → (t at : ℕ) (op : Op) → op_at (begun track ops) t at ≡ Some op → IsKnownOp texts op × (at < MAX_OPS)
+known_op texts None ops reports known t at op is = absurd cc
+known_op texts (Some name) ops reports known zero at op is = (op_known texts ops at op known.1 is, omega (arith, slice_get_within ops at op is, known.2))
+known_op texts (Some name) ops reports known (suc t) at op is = absurd cc
 
 -- a trace of one track or none
-pub trace_known : (trace : Trace) (track : Option TextId) (ops : List Op) → trace.tracks ≡ begun track ops → IsKnownSoFar trace.texts track ops → IsKnownTrace trace
-trace_known trace track ops is known =
+pub trace_known : (trace : Trace) (track : Option TextId) (ops : List Op) (reports : ℕ) → trace.tracks ≡ begun track ops → IsKnownSoFar trace.texts track ops reports → IsKnownTrace trace
+trace_known trace track ops reports is known =
     let at = by track known in
     record {
       few = omega (arith, ap length is, at.0);
-      names = λ t found e. known_name trace.texts track ops known t found (ap (λ (ts : List Track). slice_get ts t) (sym is) ∙ e);
-      ops = λ t place op e. known_op trace.texts track ops known t place op (ap (λ (ts : List Track). op_at ts t place) (sym is) ∙ e);
+      names = λ t found e. known_name trace.texts track ops reports known t found (ap (λ (ts : List Track). slice_get ts t) (sym is) ∙ e);
+      ops = λ t place op e. known_op trace.texts track ops reports known t place op (ap (λ (ts : List Track). op_at ts t place) (sym is) ∙ e);
       count = omega (arith, ap op_count is, at.1);
     }
   where
-    by : (o : Option TextId) → IsKnownSoFar trace.texts o ops → (length (begun o ops) ≤ 1) × (op_count (begun o ops) ≤ MAX_OPS)
+    by : (o : Option TextId) → IsKnownSoFar trace.texts o ops reports → (length (begun o ops) ≤ 1) × (op_count (begun o ops) ≤ MAX_OPS)
     by None h = (omega arith, omega arith)
     by (Some name) h = (omega arith, omega (arith, h.2))

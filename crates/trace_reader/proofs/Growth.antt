@@ -7,11 +7,11 @@ use Rattle.std.proofs.lemmas.Option.{slice_get_within}
 use Rattle.mem_base.specs.Texts.{interned}
 use Rattle.mem_base.specs.declared.texts.TextId.{TextId}
 use Rattle.mem_base.specs.declared.trace.Op.{Op}
-use Rattle.mem_base.specs.declared.trace.Op.TheVariants.{Acquire, Release, Malloc, Free, Poke, Peek, Refuse}
-use Rattle.mem_base.specs.declared.trace.Side.TheVariants as sides
+use Rattle.mem_base.specs.declared.trace.Op.TheVariants.{Acquire, Release, Malloc, Free, Poke, Peek, Heap, Refuse}
 use Rattle.trace_model.specs.Plain.{Name, malloc, free, poke, peek, text_at, action_of}
+use Rattle.trace_model.specs.Spelling.{is_report, reports_in}
 use Rattle.trace_model.specs.Known.{IsKnown, IsKnownOp}
-use Rattle.trace_reader.specs.Progress.{Extends, so_far, IsKnownSoFar}
+use Rattle.trace_reader.specs.Progress.{Extends, so_far, IsKnownSoFar, is_report_op}
 
 pub interned_extends : (texts : List Name) (text : Name) → Extends texts (interned texts text)
 interned_extends texts text = by (list_any (bytes_eq text) texts)
@@ -42,6 +42,7 @@ action_stays texts more (Malloc letter name size) known = ap (λ (n : Name). mal
 action_stays texts more (Free letter name) known = ap (λ (n : Name). free letter n) (text_stays texts more name known)
 action_stays texts more (Poke name offset bytes) known = ap (λ (n : Name). poke n offset bytes) (text_stays texts more name known.0)
 action_stays texts more (Peek name offset count) known = ap (λ (n : Name). peek n offset count) (text_stays texts more name known.0)
+action_stays texts more Heap known = refl
 action_stays texts more (Refuse side number) known = refl
 action_stays texts more op known = absurd known
 
@@ -52,7 +53,8 @@ op_stays texts more (Malloc letter name size) known = known_stays texts more nam
 op_stays texts more (Free letter name) known = known_stays texts more name known
 op_stays texts more (Poke name offset bytes) known = (known_stays texts more name known.0, known.1, known.2, known.3)
 op_stays texts more (Peek name offset count) known = (known_stays texts more name known.0, known.1, known.2, known.3)
-op_stays texts more (Refuse sides.Raw number) known = known
+op_stays texts more Heap known = tt
+op_stays texts more (Refuse side number) known = known
 op_stays texts more op known = absurd known
 
 pub actions_stay : (texts more : List Name) (ops : List Op) → AllByRecursion (IsKnownOp texts) ops → map (action_of (texts ++ more)) ops ≡ map (action_of texts) ops
@@ -68,13 +70,23 @@ any_map p f [] = refl
 any_map p f (x ∷ xs) = ap (λ (b : Bool). p (f x) || b) (any_map p f xs)
 
 -- a table that grew changes nothing that was read
-pub so_far_stays : (texts news : List Name) (track : Option TextId) (ops : List Op) → Extends texts news → IsKnownSoFar texts track ops → so_far news track ops ≡ so_far texts track ops
-so_far_stays texts news None ops grows known = refl
-so_far_stays texts news (Some name) ops grows known =
+pub so_far_stays : (texts news : List Name) (track : Option TextId) (ops : List Op) (reports : ℕ) → Extends texts news → IsKnownSoFar texts track ops reports → so_far news track ops ≡ so_far texts track ops
+so_far_stays texts news None ops reports grows known = refl
+so_far_stays texts news (Some name) ops reports grows known =
     ap (λ (ts : List Name). so_far ts (Some name) ops) grows.grown
     ∙ (λ i. record { tracks = record { name = text_stays texts grows.more name known.0 i; actions = actions_stay texts grows.more ops known.1 i } ∷ [] })
 
-pub ops_still_known : (texts news : List Name) (name : TextId) (ops : List Op) → Extends texts news → IsKnownSoFar texts (Some name) ops → IsKnown news name × AllByRecursion (IsKnownOp news) ops × (length news ≤ length ops + 3)
-ops_still_known texts news name ops grows known =
-    subst (λ (ts : List Name). IsKnown ts name × AllByRecursion (IsKnownOp ts) ops × (length ts ≤ length ops + 3)) (sym grows.grown)
-    (known_stays texts grows.more name known.0, ops_stay texts grows.more ops known.1, omega (arith, known.3, grows.few, length-append texts grows.more))
+pub ops_still_known : (texts news : List Name) (name : TextId) (ops : List Op) (reports : ℕ) → Extends texts news → IsKnownSoFar texts (Some name) ops reports
+    → IsKnown news name × AllByRecursion (IsKnownOp news) ops × (length news ≤ length ops + 3) × (reports ≡ reports_in (map (action_of news) ops))
+ops_still_known texts news name ops reports grows known =
+    subst (λ (ts : List Name). IsKnown ts name × AllByRecursion (IsKnownOp ts) ops × (length ts ≤ length ops + 3) × (reports ≡ reports_in (map (action_of ts) ops))) (sym grows.grown) (
+      known_stays texts grows.more name known.0,
+      ops_stay texts grows.more ops known.1,
+      omega (arith, known.3, grows.few, length-append texts grows.more),
+      known.4 ∙ ap reports_in (sym (actions_stay texts grows.more ops known.1)),
+    )
+
+-- the table does not matter to what an operation prints
+pub report_is : (texts : List Name) (op : Op) → is_report (action_of texts op) ≡ is_report_op op
+report_is texts Heap = refl
+report_is texts op = refl

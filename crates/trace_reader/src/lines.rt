@@ -120,11 +120,16 @@ fn tracks(alloc: Global, track: Option<TextId>, ops: List<Op>) -> Result<List<Tr
 
 // The trace of all lines.
 fn finish(alloc: Global, progress: Progress) -> Result<Trace, AllocError>
-    requires { IsKnownSoFar progress.texts progress.track progress.ops }
+    requires { IsKnownSoFar progress.texts progress.track progress.ops progress.reports }
     ensures read { IfOk result (λ t. plain t ≡ so_far progress.texts progress.track progress.ops) }
     ensures known { IfOk result IsKnownTrace }
 {
-    let Progress { texts, track, ops } = progress;
+    let Progress {
+        texts,
+        track,
+        ops,
+        ..
+    } = progress;
     Ok(Trace {
         texts,
         tracks: tracks(alloc, track, ops)?,

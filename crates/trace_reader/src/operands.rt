@@ -29,6 +29,8 @@ pub fn read_keyword(word: &[u8]) -> Result<Keyword, TraceCause>
         Ok(Keyword::Poke)
     } else if word == b"peek".as_slice() {
         Ok(Keyword::Peek)
+    } else if word == b"heap".as_slice() {
+        Ok(Keyword::Heap)
     } else if word == b"refuse".as_slice() {
         Ok(Keyword::Refuse)
     } else {
@@ -177,13 +179,14 @@ pub fn letter(word: &[u8]) -> Result<Letter, TraceCause>
     }
 }
 
-/// The source that refuses. Until there are arenas, it is that of raw memory.
+/// The source that refuses.
 #[tactic(auto, unfolding(trace_model::specs::Reading::side_at))]
 pub fn side(word: &[u8]) -> Result<Side, TraceCause>
-    ensures value { result ≡ side_at word.now }
-    ensures raw { IfOk result (λ s. s ≡ Side.Raw) }
+    ensures { result ≡ side_at word.now }
 {
-    if word == b"raw".as_slice() {
+    if word == b"arena".as_slice() {
+        Ok(Side::Arena)
+    } else if word == b"raw".as_slice() {
         Ok(Side::Raw)
     } else {
         Err(TraceCause::UnknownWord)

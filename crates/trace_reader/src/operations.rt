@@ -123,6 +123,7 @@ pub fn read_op(
         (Keyword::Free, [domain, block]) => free(texts, domain, block),
         (Keyword::Poke, [block, at, digits]) => poke(alloc, texts, block, at, digits),
         (Keyword::Peek, [block, at, size]) => peek(texts, block, at, size),
+        (Keyword::Heap, []) => Ok(Op::Heap),
         (Keyword::Refuse, [source, request]) => refuse(source, request),
         _ => Err(LineError::Wrong(TraceCause::BadWords)),
     }

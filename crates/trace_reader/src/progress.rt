@@ -5,13 +5,13 @@ ghost use Rattle.trace_model.specs.Spelling.{is_between};
 ghost use Rattle.trace_model.specs.Reading.{line_at, words_at, item_at, start_at, is_empty, is_track, opening};
 ghost use Rattle.trace_model.specs.declared.cause.TraceCause.TheVariants.{SameTrack, TooMany};
 ghost use Rattle.trace_reader.specs.Answers.{Gives};
-ghost use Rattle.trace_reader.specs.Progress.{so_far, IsKnownSoFar, pushed};
+ghost use Rattle.trace_reader.specs.Progress.{so_far, IsKnownSoFar, is_report_op, pushed};
 
 use crate::error::LineError;
 use crate::operands::{name, read_keyword};
 use crate::operations::{intern, read_op};
 use crate::words::words_of;
-use mem_base::limits::MAX_OPS;
+use mem_base::limits::{MAX_OPS, MAX_REPORTS};
 use mem_base::{List, Op, TextId, Texts};
 use std::alloc::{AllocError, Global};
 use trace_model::{Keyword, TraceCause};
@@ -22,16 +22,29 @@ pub struct Progress {
     pub texts: Texts,
     pub track: Option<TextId>,
     pub ops: List<Op>,
+    /// How many of the operations print more than a reply.
+    pub reports: usize,
+}
+
+// Whether an operation prints more than a reply.
+fn is_report(op: &Op) -> bool
+    ensures { result ≡ is_report_op op.now }
+{
+    matches!(op, Op::Heap)
 }
 
 // Adds an operation, if there is room for it.
-fn push_op(ops: &mut List<Op>, op: Op) -> Result<(), LineError>
-    ensures { Gives (λ _. ops.new) result (pushed ops.old op) }
+fn push_op(ops: &mut List<Op>, reports: &mut usize, op: Op) -> Result<(), LineError>
+    ensures { Gives (λ _. (ops.new, reports.new)) result (pushed ops.old reports.old op) }
 {
-    if ops.len() >= MAX_OPS {
+    let report = is_report(&op);
+    if ops.len() >= MAX_OPS || report && *reports >= MAX_REPORTS {
         return Err(LineError::Wrong(TraceCause::TooMany));
     }
     ops.push(op)?;
+    if report {
+        *reports += 1;
+    }
     Ok(())
 }
 
@@ -61,21 +74,22 @@ fn has_empty(words: &[&[u8]]) -> bool
 impl Progress {
     /// A trace of which the header alone was read.
     pub fn new(alloc: Global) -> Result<Progress, AllocError>
-        ensures known { IfOk result (λ p. IsKnownSoFar p.texts p.track p.ops) }
+        ensures known { IfOk result (λ p. IsKnownSoFar p.texts p.track p.ops p.reports) }
         ensures none { IfOk result (λ p. so_far p.texts p.track p.ops ≡ opening) }
     {
         Ok(Progress {
             texts: Texts::new(alloc)?,
             track: None,
             ops: List::new(alloc),
+            reports: 0,
         })
     }
 
     /// Takes one more line, without its end.
     #[tactic(auto, unfolding(trace_model::specs::Reading::line_at))]
     pub fn line(&mut self, alloc: Global, line: &[u8]) -> Result<(), LineError>
-        requires { IsKnownSoFar self.old.texts self.old.track self.old.ops }
-        ensures known { OnOk result (IsKnownSoFar self.new.texts self.new.track self.new.ops) }
+        requires { IsKnownSoFar self.old.texts self.old.track self.old.ops self.old.reports }
+        ensures known { OnOk result (IsKnownSoFar self.new.texts self.new.track self.new.ops self.new.reports) }
         ensures read { Gives (λ _. so_far self.new.texts self.new.track self.new.ops) result
             (line_at (so_far self.old.texts self.old.track self.old.ops) line.now) }
     {
@@ -89,8 +103,8 @@ impl Progress {
     // Takes the words of a line.
     #[tactic(auto, using(crate::proofs::Growth::any_map))]
     fn words(&mut self, alloc: Global, words: &[&[u8]]) -> Result<(), LineError>
-        requires { IsKnownSoFar self.old.texts self.old.track self.old.ops }
-        ensures known { OnOk result (IsKnownSoFar self.new.texts self.new.track self.new.ops) }
+        requires { IsKnownSoFar self.old.texts self.old.track self.old.ops self.old.reports }
+        ensures known { OnOk result (IsKnownSoFar self.new.texts self.new.track self.new.ops self.new.reports) }
         ensures read { Gives (λ _. so_far self.new.texts self.new.track self.new.ops) result
             (words_at (so_far self.old.texts self.old.track self.old.ops) (map (λ w. w.now) words.now)) }
     {
@@ -109,9 +123,9 @@ impl Progress {
 
     // Takes the operands of a line.
     fn item(&mut self, alloc: Global, keyword: Keyword, words: &[&[u8]]) -> Result<(), LineError>
-        requires known { IsKnownSoFar self.old.texts self.old.track self.old.ops }
+        requires known { IsKnownSoFar self.old.texts self.old.track self.old.ops self.old.reports }
         requires begun { is_track keyword ≡ false → IsSome self.old.track }
-        ensures known { OnOk result (IsKnownSoFar self.new.texts self.new.track self.new.ops) }
+        ensures known { OnOk result (IsKnownSoFar self.new.texts self.new.track self.new.ops self.new.reports) }
         ensures read { Gives (λ _. so_far self.new.texts self.new.track self.new.ops) result
             (item_at (so_far self.old.texts self.old.track self.old.ops) keyword (map (λ w. w.now) words.now)) }
     {
@@ -123,8 +137,8 @@ impl Progress {
 
     // Begins the track.
     fn start(&mut self, words: &[&[u8]]) -> Result<(), LineError>
-        requires { IsKnownSoFar self.old.texts self.old.track self.old.ops }
-        ensures known { OnOk result (IsKnownSoFar self.new.texts self.new.track self.new.ops) }
+        requires { IsKnownSoFar self.old.texts self.old.track self.old.ops self.old.reports }
+        ensures known { OnOk result (IsKnownSoFar self.new.texts self.new.track self.new.ops self.new.reports) }
         ensures read { Gives (λ _. so_far self.new.texts self.new.track self.new.ops) result
             (start_at (so_far self.old.texts self.old.track self.old.ops) (map (λ w. w.now) words.now)) }
     {
@@ -141,14 +155,14 @@ impl Progress {
 
     // Takes the operands of an operation.
     fn action(&mut self, alloc: Global, keyword: Keyword, words: &[&[u8]]) -> Result<(), LineError>
-        requires known { IsKnownSoFar self.old.texts self.old.track self.old.ops }
+        requires known { IsKnownSoFar self.old.texts self.old.track self.old.ops self.old.reports }
         requires operation { is_track keyword ≡ false }
         requires begun { IsSome self.old.track }
-        ensures known { OnOk result (IsKnownSoFar self.new.texts self.new.track self.new.ops) }
+        ensures known { OnOk result (IsKnownSoFar self.new.texts self.new.track self.new.ops self.new.reports) }
         ensures read { Gives (λ _. so_far self.new.texts self.new.track self.new.ops) result
             (item_at (so_far self.old.texts self.old.track self.old.ops) keyword (map (λ w. w.now) words.now)) }
     {
         let op = read_op(alloc, &mut self.texts, keyword, words)?;
-        push_op(&mut self.ops, op)
+        push_op(&mut self.ops, &mut self.reports, op)
     }
 }

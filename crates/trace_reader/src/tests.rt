@@ -34,6 +34,19 @@ fn reads_each_operation(rt: HostRuntime) -> Result<(), Fail> {
     Ok(())
 }
 
+#[test]
+fn reads_heap_and_a_refused_arena(rt: HostRuntime) -> Result<(), Fail> {
+    let trace = read_trace(rt.alloc(), b"pymtrace 1\ntrack t\nheap\nrefuse arena 3\n")?;
+    let mut ops = List::new(rt.alloc());
+    ops.push(Op::Heap)?;
+    ops.push(Op::Refuse(Side::Arena, 3))?;
+    assert_eq!(rt; trace.tracks.len(), 1);
+    for track in trace.tracks.as_slice() {
+        assert_eq!(rt; track.ops, ops);
+    }
+    Ok(())
+}
+
 // The first faulty line and its fault, where there is one.
 fn refusal(alloc: Global, text: &str) -> Result<Option<(u64, TraceCause)>, AllocError> {
     match read_trace(alloc, text.as_bytes()) {
@@ -83,12 +96,13 @@ fn refuses_a_third_line(rt: HostRuntime) -> Result<(), Fail> {
         ("poke x 0 0A\n", TraceCause::BadHex),
         ("poke x -8 6d\n", TraceCause::ForgedLetter),
         ("peek x 0 1025\n", TraceCause::BadRange),
-        ("refuse arena 1\n", TraceCause::UnknownWord),
+        ("refuse pool 1\n", TraceCause::UnknownWord),
         ("refuse raw 0\n", TraceCause::BadRange),
         ("refuse raw 1000001\n", TraceCause::BadRange),
         ("refuse raw 01\n", TraceCause::BadNumber),
         ("refuse raw\n", TraceCause::BadWords),
-        ("refuse arena 01\n", TraceCause::UnknownWord),
+        ("refuse arena 01\n", TraceCause::BadNumber),
+        ("heap x\n", TraceCause::BadWords),
         ("track t\n", TraceCause::SameTrack),
         ("track u\n", TraceCause::TooMany),
     ] {
@@ -129,6 +143,17 @@ fn keeps_the_limits(rt: HostRuntime) -> Result<(), Fail> {
         }
         assert_eq!(rt; refusal(rt.alloc(), text.as_str())?, fault, "at {times}");
     }
+    Ok(())
+}
+
+#[test]
+fn takes_1024_heaps_and_refuses_the_next(rt: HostRuntime) -> Result<(), Fail> {
+    let head = "pymtrace 1\ntrack t\n";
+    let most = repeated(rt.alloc(), head, "heap\n", 1024)?;
+    assert_eq!(rt; refusal(rt.alloc(), most.as_str())?, None);
+    let more = repeated(rt.alloc(), head, "heap\n", 1025)?;
+    let fault = Some((1027, TraceCause::TooMany));
+    assert_eq!(rt; refusal(rt.alloc(), more.as_str())?, fault);
     Ok(())
 }
 

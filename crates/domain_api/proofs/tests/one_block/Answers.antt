@@ -1,5 +1,4 @@
-use Rattle.std.proofs.Common.{◌≡◌, [], true, ap, subst}
-use Rattle.py_heap.specs.Heap.{empty_heap}
+use Rattle.std.proofs.Common.{true, ap, subst}
 use Rattle.domain_api.specs.Held.{DomainsView}
 use Rattle.domain_api.specs.Domains.{IsMade}
 use Rattle.domain_api.specs.declared.answers.Got.{Got}
@@ -20,6 +19,6 @@ end-requires-in-Block-clause-none g c =
     let new = c.malloc.new.self in
     let asked = c.in-Ok.made.asked in
     let made = subst (λ (got : Got). IsMade c.args.letter c.args.n true old new got asked) c.in-Block.is c.in-Ok.ensures.made in
-    let none : old ≡ record { heap = empty_heap; raws = [] } = c.in_ok-domains.ensures in
+    let none = c.in_ok-domains.ensures.empty in
     all_given_up c.args.letter c.args.n c.in-Block.block asked old new c.drop_block.new.self made.1.1 c.drop_block.ensures.back
     (ap (λ (d : DomainsView). d.heap.loans) none) (ap (λ (d : DomainsView). d.raws) none)

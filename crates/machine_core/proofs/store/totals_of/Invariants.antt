@@ -1,13 +1,13 @@
 use Rattle.std.proofs.Common.{◌≡◌, ◌*◌, ◌^◌, ◌≤◌, take}
 use Rattle.std.specs.Prelude.{sum_by}
-use Rattle.machine_core.specs.Slots.{bodies_of, count_in, size_in}
+use Rattle.machine_core.specs.Slots.{data_in, live_in}
 use Rattle.machine_core.proofs.store.totals_of.Given as goal
 
 -- the sums over the slots so far
 abbrev pub invariant-loop-slot : goal.invariant-loop-slot
 invariant-loop-slot l = record {
-  blocks : l.totals.blocks ≡ sum_by count_in (bodies_of (take l.slot-index l.slots));
-  bytes : l.totals.bytes ≡ sum_by size_in (bodies_of (take l.slot-index l.slots));
+  blocks : l.totals.blocks ≡ sum_by live_in (take l.slot-index l.slots);
+  bytes : l.totals.bytes ≡ sum_by data_in (take l.slot-index l.slots);
   few : l.totals.blocks ≤ l.slot-index;
   room : l.totals.bytes ≤ l.slot-index * 2 ^ 63;
 }

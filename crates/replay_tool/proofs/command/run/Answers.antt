@@ -1,4 +1,4 @@
-use Rattle.replay_tool.proofs.EndLemmas.{replayed_is, quiet_is, usage_is, refused_is, read_fault_is, too_long_is, nothing_is, write_fault_is, no_memory_is, known_is, back_is, idle_is, shaped_is, alone_is, other_words_is, faulty_is, too_many_is, past_is, complete_is}
+use Rattle.replay_tool.proofs.EndLemmas.{replayed_is, quiet_is, usage_is, refused_is, read_fault_is, too_long_is, nothing_is, write_fault_is, no_memory_is, known_is, back_is, alone_is, other_words_is, faulty_is, too_many_is, past_is, complete_is}
 use Rattle.replay_tool.proofs.command.run.Goals as goal
 
 pub returns-clause-replayed : goal.returns-clause-replayed
@@ -29,13 +29,7 @@ pub returns-clause-no_memory : goal.returns-clause-no_memory
 returns-clause-no_memory g c = λ is. no_memory_is _ c.run_words.ensures is
 
 pub returns-clause-back : goal.returns-clause-back
-returns-clause-back g c = back_is _ c.run_words.ensures c.requires.none_out.0 c.requires.none_out.1
-
-pub returns-clause-idle : goal.returns-clause-idle
-returns-clause-idle g c = idle_is _ c.run_words.ensures
-
-pub returns-clause-shaped : goal.returns-clause-shaped
-returns-clause-shaped g c = λ is. shaped_is _ c.run_words.ensures is
+returns-clause-back g c = back_is _ c.run_words.ensures c.requires.none_out
 
 pub returns-clause-alone : goal.returns-clause-alone
 returns-clause-alone g c = λ is. alone_is _ c.run_words.ensures is

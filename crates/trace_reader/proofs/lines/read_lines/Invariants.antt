@@ -10,7 +10,7 @@ use Rattle.trace_reader.proofs.lines.read_lines.Given as goal
 abbrev pub invariant-loop-text : goal.invariant-loop-text
 invariant-loop-text l = record {
   read : lines_at l.line (so_far l.progress.texts l.progress.track l.progress.ops) (slice_split (λ b. b == line_end) l.rest) ≡ lines_at 2 opening (slice_split (λ b. b == line_end) l.bytes);
-  known : IsKnownSoFar l.progress.texts l.progress.track l.progress.ops;
+  known : IsKnownSoFar l.progress.texts l.progress.track l.progress.ops l.progress.reports;
   count : l.line + length l.rest ≤ length l.bytes + 2;
 }
 

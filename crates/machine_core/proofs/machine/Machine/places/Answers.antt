@@ -11,5 +11,5 @@ returns c =
     let a = c.self.inside in
     subst (λ (m : MachineView). IfOk c.spots_of.result (AreSpots m)) c.self.view_is
     (IfOk-weaker c.spots_of.result _ _
-    (λ spots h. spots_are a.trace a.history.entries a.store.slots.items a.store.domains.raws a.owner a.done.items a.faulted c.self.invariant spots (h ∙ ap (spots_from 0) c.as_slice.ensures.value))
+    (λ spots h. spots_are a.trace a.history.entries a.store.slots.items a.store.domains a.owner a.done.items a.faulted c.self.invariant spots (h ∙ ap (spots_from 0) c.as_slice.ensures.value))
     c.spots_of.ensures)

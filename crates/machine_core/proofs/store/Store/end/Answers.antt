@@ -1,29 +1,59 @@
 use Rattle.std.proofs.Common.{ℕ, ◌<◌, List, ◌++◌, Option, sym, ap, subst, ◌∙◌}
 use Rattle.std.specs.Prelude.{option_to_list}
 use Rattle.debug_guard.specs.Guard.{Guard}
-use Rattle.sources.proofs.Holders.{traded_then}
-use Rattle.machine_core.specs.Slots.{IsStored}
-use Rattle.machine_core.proofs.StoreLemmas.{drop_loan, drop_stored, last_left, asked_nothing_then}
+use Rattle.machine_core.specs.Slots.{IsStore, loans_of}
+use Rattle.machine_core.proofs.EndLemmas.{arenas_gone, nothing_then, nothing_yet, raws_gone, traded_on, traded_yet}
+use Rattle.machine_core.proofs.KeepLemmas.{dropped, last_loan, none_left}
+use Rattle.machine_core.proofs.StoreLemmas.{last_left}
 use Rattle.machine_core.proofs.store.Store.end.Goals as goal
+
+pub loop-slot-init : goal.loop-slot-init
+loop-slot-init g c = record {
+  stored = c.requires.stored;
+  held = c.requires.held;
+  nothing = nothing_yet _ _;
+  traded = traded_yet _ _ _ c.requires.held;
+}
 
 pub drop_slot-requires-clause-loan : goal.drop_slot-requires-clause-loan
 drop_slot-requires-clause-loan g c =
-    let all = c.loop-slot.invariant.stored in
     let parts = c.pop.ensures.items ∙ ap (λ (o : Option (Option Guard)). c.pop.new.self.items ++ option_to_list o) c.in-Some.is in
-    drop_loan c.pop.new.self.items c.in-Some.slot c.loop-slot.domains.raws (subst (λ (l : List (Option Guard)). IsStored l c.loop-slot.domains.raws) parts all)
+    last_loan c.pop.new.self.items c.in-Some.slot c.loop-slot.domains (subst (λ (l : List (Option Guard)). IsStore l c.loop-slot.domains) parts c.loop-slot.invariant.stored)
+
+pub drop_slot-requires-clause-sound : goal.drop_slot-requires-clause-sound
+drop_slot-requires-clause-sound g c = c.loop-slot.invariant.stored.sound
+
+pub drop_slot-requires-clause-held : goal.drop_slot-requires-clause-held
+drop_slot-requires-clause-held g c = c.loop-slot.invariant.held
 
 pub loop-slot-preserved : goal.loop-slot-preserved
 loop-slot-preserved g c =
-    let all = c.loop-slot.invariant.stored in
     let parts = c.pop.ensures.items ∙ ap (λ (o : Option (Option Guard)). c.pop.new.self.items ++ option_to_list o) c.in-Some.is in
     let first = c.loop-slot.invariant in
     record {
-      stored = drop_stored c.pop.new.self.items c.in-Some.slot c.loop-slot.domains.raws c.drop_slot.new.domains.raws (subst (λ (l : List (Option Guard)). IsStored l c.loop-slot.domains.raws) parts all)
-          c.drop_slot.ensures.back c.drop_slot.ensures.none c.drop_slot.ensures.apart;
-      nothing = asked_nothing_then _ _ _ first.nothing c.drop_slot.ensures.nothing;
-      traded = traded_then _ _ _ _ _ _ first.traded c.drop_slot.ensures.traded;
-      arenas = c.drop_slot.ensures.arenas ∙ first.arenas;
+      stored = dropped c.loop-slot.domains c.drop_slot.new.domains (g.A.ArenaSource.seen c.drop_slot.new.arenas) (g.R.RawSource.seen c.drop_slot.new.raws) c.drop_slot.ensures.sound c.drop_slot.ensures.held
+          c.pop.new.self.items c.in-Some.slot (subst (λ (l : List (Option Guard)). IsStore l c.loop-slot.domains) parts first.stored) c.drop_slot.ensures.back c.drop_slot.ensures.none;
+      held = c.drop_slot.ensures.held;
+      nothing = nothing_then _ _ _ _ _ _ first.nothing c.drop_slot.ensures.nothing;
+      traded = traded_on _ _ _ _ _ _ _ _ _ first.traded c.drop_slot.ensures.traded;
     }
 
-pub end-requires : goal.end-requires
-end-requires g c = last_left c.loop-slot.slots.items c.pop.result c.loop-slot.domains.raws (λ lt. c.pop.ensures.variant.1 (subst (λ (n : ℕ). 0 < n) (sym c.loop-slot.slots.ok.0) lt)) c.in_default.is c.loop-slot.invariant.stored
+pub end-requires-clause-none : goal.end-requires-clause-none
+end-requires-clause-none g c =
+    none_left c.loop-slot.domains
+    (last_left c.loop-slot.slots.items c.pop.result (loans_of c.loop-slot.domains) (λ lt. c.pop.ensures.variant.1 (subst (λ (n : ℕ). 0 < n) (sym c.loop-slot.slots.ok.0) lt)) c.in_default.is c.loop-slot.invariant.stored.stored)
+
+pub end-requires-clause-held : goal.end-requires-clause-held
+end-requires-clause-held g c = c.loop-slot.invariant.held
+
+pub returns-clause-nothing : goal.returns-clause-nothing
+returns-clause-nothing g c = nothing_then _ _ _ _ _ _ c.loop-slot.invariant.nothing c.end.ensures.nothing
+
+pub returns-clause-arenas : goal.returns-clause-arenas
+returns-clause-arenas g c = arenas_gone _ _ _ _ _ _ _ c.loop-slot.invariant.traded c.end.ensures.arenas
+
+pub returns-clause-raws : goal.returns-clause-raws
+returns-clause-raws g c =
+    let none = none_left c.loop-slot.domains
+        (last_left c.loop-slot.slots.items c.pop.result (loans_of c.loop-slot.domains) (λ lt. c.pop.ensures.variant.1 (subst (λ (n : ℕ). 0 < n) (sym c.loop-slot.slots.ok.0) lt)) c.in_default.is c.loop-slot.invariant.stored.stored) in
+    raws_gone _ _ _ _ _ _ _ c.loop-slot.invariant.traded none.1 c.end.ensures.raws

@@ -1,15 +1,14 @@
-use Rattle.std.proofs.Common.{◌≡◌}
-use Rattle.sources.specs.Holder.{AskedNothing, Traded}
-use Rattle.machine_core.specs.Slots.{IsStored}
+use Rattle.domain_api.specs.Held.{AreAskedNothing, AreHeld, AreTraded}
+use Rattle.machine_core.specs.Slots.{IsStore}
 use Rattle.machine_core.proofs.store.Store.end.Given as goal
 
--- the blocks that are left lie in the regions that are left
+-- the slots that are left have just the blocks that are left
 abbrev pub invariant-loop-slot : goal.invariant-loop-slot
 invariant-loop-slot g l = record {
-  stored : IsStored l.slots.items l.domains.raws;
-  nothing : AskedNothing (g.R.RawSource.seen l.fn.raws) (g.R.RawSource.seen l.raws);
-  traded : Traded l.fn.self.domains.raws l.domains.raws (g.R.RawSource.seen l.fn.raws) (g.R.RawSource.seen l.raws);
-  arenas : g.A.ArenaSource.seen l.arenas ≡ g.A.ArenaSource.seen l.fn.arenas;
+  stored : IsStore l.slots.items l.domains;
+  held : AreHeld l.domains (g.A.ArenaSource.seen l.arenas) (g.R.RawSource.seen l.raws);
+  nothing : AreAskedNothing (g.A.ArenaSource.seen l.fn.arenas) (g.A.ArenaSource.seen l.arenas) (g.R.RawSource.seen l.fn.raws) (g.R.RawSource.seen l.raws);
+  traded : AreTraded l.fn.self.domains l.domains (g.A.ArenaSource.seen l.fn.arenas) (g.A.ArenaSource.seen l.arenas) (g.R.RawSource.seen l.fn.raws) (g.R.RawSource.seen l.raws);
 }
 
 abbrev pub decreases-loop-slot : goal.decreases-loop-slot

@@ -1,7 +1,0 @@
-use Rattle.report_model.specs.Report.{blocks_line}
-use Rattle.replay_tool.proofs.Joins.{five}
-use Rattle.replay_tool.proofs.report.push_blocks_line.Goals as goal
-
-pub returns : goal.returns
-unfolding blocks_line
-returns c = five _ _ _ _ _ _ _ _ _ _ _ c.in_ok-extend_from_slice.ensures.items c.in_ok-push_number.ensures c.in_ok-extend_from_slice-2.ensures.items c.in_ok-push_wide.ensures c.in_ok-push.ensures.items

@@ -1,7 +1,0 @@
-use Rattle.std.proofs.Common.{◌≡◌, ◌++◌, drop}
-use Rattle.trace_model.specs.Spelling.{hex_word}
-use Rattle.replay_tool.proofs.report.push_hex.Given as goal
-
--- what was added, and the digits of the bytes left, are those of all
-abbrev pub invariant-loop-byte : goal.invariant-loop-byte
-invariant-loop-byte l = l.out.items ++ hex_word (drop l.byte-index l.bytes) ≡ l.fn.out.items ++ hex_word l.bytes

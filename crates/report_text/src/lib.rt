@@ -1,0 +1,46 @@
+//! The text of an event and the summary of a run, as bytes. Both are lines that end in a line feed,
+//! and their forms are this project's own. Numbers are decimal, bytes are two lowercase hexadecimal
+//! digits each, and sizes are in bytes.
+//!
+//! The first line of an event is its number, the name of its track, the operation as the trace
+//! spells it, an equals sign and the reply. A heap's shape and a fault have further lines, which
+//! begin with two blanks:
+//!
+//! ```text
+//! 3 t heap = pool 1 raw 0
+//!   arena 1 free 63 of 64
+//!   class 32 used 1:1 full 0
+//! 6 t free m x = fault
+//!   bad_tail 0
+//!   block x size 32
+//!   head 6dfdfdfdfdfdfdfd
+//!   tail 00fdfdfdfdfdfdfd
+//! ```
+//!
+//! The reply of `heap` counts the live blocks in pools and those in raw regions. An arena's line has
+//! its number, its free pools and all its pools. A class's line has the size of its blocks, its
+//! partly used pools as `ARENA:LIVE` with commas between (or `-` where there is none), and how many
+//! of its pools are full.
+//!
+//! The summary is five lines:
+//!
+//! ```text
+//! summary events 5 status 0
+//! summary lock free
+//! summary blocks 2 bytes 10
+//! summary arenas given 1 back 0 most 1
+//! summary traced 0 peak 0
+//! ```
+//!
+//! The definitions stand in the crate `report_model`.
+#![tactic(auto)]
+
+mod events;
+mod summary;
+#[cfg(test)]
+mod tests;
+mod words;
+
+pub use events::{event_text, push_event};
+pub use summary::{push_summary, summary_text};
+pub use words::push_number;

@@ -1,0 +1,132 @@
+//! Numbers, bytes, names, and the words of operations.
+ghost use Rattle.std.specs.Prelude.{◌≡◌, ◌++◌, ◌∷◌, ◌<◌, OnOk, decimal};
+ghost use Rattle.std.specs.Fmt.{signed_decimal};
+ghost use Rattle.trace_model.specs.Plain.{action_of, text_at, refuse};
+ghost use Rattle.trace_model.specs.Known.{IsKnown, IsKnownOp};
+ghost use Rattle.trace_model.specs.Spelling.{line_of, hex_word, letter_word, side_word, blank, glyph};
+
+use itoa::Buffer;
+use mem_base::{Letter, Op, Side, TextId, Texts};
+use std::alloc::AllocError;
+
+// ---- numbers and bytes
+
+/// Adds a number in decimal to the end of a text. The error is that there was no memory for it.
+pub fn push_number(text: &mut Vec<u8>, n: u64) -> Result<(), AllocError>
+    ensures { OnOk result (text.new.items ≡ text.old.items ++ decimal n) }
+{
+    let mut buffer = Buffer::new();
+    text.extend_from_slice(buffer.format(n).as_bytes())
+}
+
+pub(crate) fn push_wide(text: &mut Vec<u8>, n: u128) -> Result<(), AllocError>
+    ensures { OnOk result (text.new.items ≡ text.old.items ++ decimal n) }
+{
+    let mut buffer = Buffer::new();
+    text.extend_from_slice(buffer.format(n).as_bytes())
+}
+
+fn push_offset(text: &mut Vec<u8>, n: &i64) -> Result<(), AllocError>
+    ensures { OnOk result (text.new.items ≡ text.old.items ++ signed_decimal n.now) }
+{
+    let mut buffer = Buffer::new();
+    text.extend_from_slice(buffer.format(*n).as_bytes())
+}
+
+fn digit(n: u8) -> u8
+    requires { n < 16 }
+    ensures { result ≡ glyph n }
+{
+    if n < 10 { b'0' + n } else { 87 + n }
+}
+
+pub(crate) fn push_hex(text: &mut Vec<u8>, bytes: &[u8]) -> Result<(), AllocError>
+    ensures { OnOk result (text.new.items ≡ text.old.items ++ hex_word bytes.now) }
+{
+    for byte in bytes {
+        text.extend_from_slice(&[digit(*byte / 16), digit(*byte % 16)])?;
+    }
+    Ok(())
+}
+
+// ---- operations
+
+// A blank and the letter of a domain.
+fn push_letter(text: &mut Vec<u8>, letter: Letter) -> Result<(), AllocError>
+    ensures { OnOk result (text.new.items ≡ text.old.items ++ blank ∷ letter_word letter) }
+{
+    text.push(b' ')?;
+    text.push(letter.byte())?;
+    Ok(())
+}
+
+// A blank and the name.
+pub(crate) fn push_name(text: &mut Vec<u8>, texts: &Texts, name: TextId) -> Result<(), AllocError>
+    requires { IsKnown texts.now name }
+    ensures { OnOk result (text.new.items ≡ text.old.items ++ blank ∷ text_at texts.now name) }
+{
+    text.push(b' ')?;
+    text.extend_from_slice(texts.get(name))
+}
+
+// A blank and the word of a source.
+fn push_side(text: &mut Vec<u8>, side: Side) -> Result<(), AllocError>
+    ensures { OnOk result (text.new.items ≡ text.old.items ++ blank ∷ side_word side) }
+{
+    match side {
+        Side::Arena => text.extend_from_slice(b" arena"),
+        Side::Raw => text.extend_from_slice(b" raw"),
+    }
+}
+
+// The line of a refusal, without its end.
+fn push_refusal(text: &mut Vec<u8>, side: Side, number: u64) -> Result<(), AllocError>
+    ensures { OnOk result (text.new.items ≡ text.old.items ++ line_of (refuse side number)) }
+{
+    text.extend_from_slice(b"refuse")?;
+    push_side(text, side)?;
+    text.push(b' ')?;
+    push_number(text, number)
+}
+
+// The line of an operation, without its end.
+pub(crate) fn push_op(text: &mut Vec<u8>, texts: &Texts, op: &Op) -> Result<(), AllocError>
+    requires { IsKnownOp texts.now op.now }
+    ensures { OnOk result (text.new.items ≡ text.old.items ++ line_of (action_of texts.now op.now)) }
+{
+    match op {
+        Op::Acquire => text.extend_from_slice(b"acquire"),
+        Op::Release => text.extend_from_slice(b"release"),
+        Op::Malloc(letter, name, size) => {
+            text.extend_from_slice(b"malloc")?;
+            push_letter(text, *letter)?;
+            push_name(text, texts, *name)?;
+            text.push(b' ')?;
+            push_number(text, *size)
+        }
+        Op::Free(letter, name) => {
+            text.extend_from_slice(b"free")?;
+            push_letter(text, *letter)?;
+            push_name(text, texts, *name)
+        }
+        Op::Poke(name, offset, bytes) => {
+            text.extend_from_slice(b"poke")?;
+            push_name(text, texts, *name)?;
+            text.push(b' ')?;
+            push_offset(text, offset)?;
+            text.push(b' ')?;
+            push_hex(text, bytes.as_slice())
+        }
+        Op::Peek(name, offset, count) => {
+            text.extend_from_slice(b"peek")?;
+            push_name(text, texts, *name)?;
+            text.push(b' ')?;
+            push_offset(text, offset)?;
+            text.push(b' ')?;
+            push_number(text, *count)
+        }
+        Op::Heap => text.extend_from_slice(b"heap"),
+        Op::Refuse(side, number) => push_refusal(text, *side, *number),
+        _ => unreachable!(),
+    }
+}
