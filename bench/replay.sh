@@ -1,26 +1,41 @@
 #!/usr/bin/env bash
-# Prints how long replays of traces of four sizes take, and the ratio of each to the one before.
+# Prints how long replays of traces of four sizes take, the ratio of each to the one before, and the most memory that
+# each held. A trace is mixed: in waves of 32,768 operations blocks of 0 to 700 bytes of all three domains are allocated
+# and then freed in another order, so that pools and arenas fill and empty; every 512th operation shows the heap, and
+# as often a request of one of the sources is refused.
 # Usage: bench/replay.sh (the program is proved and built first where it is not)
 set -eu
 cd "$(dirname "$0")/.."
 work=$(mktemp -d)
 trap 'rm -rf "$work"' EXIT
 
-# A trace of so many operations, of some 63 bytes each, so that the longest is near the limit of an input: blocks are
-# allocated, written, read and freed in turn.
 trace() {
     awk -v n="$1" 'BEGIN {
-        for (i = 0; i < 41; i++) hex = hex sprintf("%02x", i)
         print "pymtrace 1"; print "track t"; print "acquire"
+        split("r m o", letter, " ")
         for (i = 1; i < n; i++) {
-            name = sprintf("block_%026d", int((i - 1) / 4) % 20000)
-            r = (i - 1) % 4
-            if (r == 0) print "malloc m " name " " 100 + i % 500
-            if (r == 1) print "poke " name " 0 " hex
-            if (r == 2) print "peek " name " 0 16"
-            if (r == 3) print "free m " name
+            at = i % 32768
+            k = at < 16384 ? at : ((at - 16384) * 7) % 16384
+            name = sprintf("block_%026d", k)
+            if (at % 512 == 0) print "heap"
+            else if (at % 512 == 256) print "refuse " (at % 1024 == 256 ? "raw" : "arena") " 3"
+            else if (at < 16384) print "malloc " letter[1 + k % 3] " " name " " (k * 37) % 701
+            else print "free " letter[1 + k % 3] " " name
         }
     }'
+}
+
+# Runs the replay of a trace, and prints its time in microseconds and the most memory that it held in KiB.
+timed() {
+    python3 - "$1" "$2" <<'PYTHON'
+import os, resource, subprocess, sys, time
+with open(sys.argv[1]) as trace, open(sys.argv[2], "w") as out:
+    start = time.monotonic()
+    status = subprocess.call(["./pymtrace", "replay"], stdin=trace, stdout=out)
+    took = time.monotonic() - start
+assert status == 0, status
+print(int(took * 1e6), resource.getrusage(resource.RUSAGE_CHILDREN).ru_maxrss)
+PYTHON
 }
 
 ./pymtrace replay < examples/first.trace > "$work/out"
@@ -29,14 +44,12 @@ for n in 32768 65536 131072 262144; do
     trace "$n" > "$work/trace"
     best=""
     for _ in 1 2 3; do
-        from=$(date +%s%N)
-        ./pymtrace replay < "$work/trace" > "$work/out"
-        took=$((($(date +%s%N) - from) / 1000))
+        read -r took memory < <(timed "$work/trace" "$work/out")
         if [ -z "$best" ] || [ "$took" -lt "$best" ]; then best=$took; fi
     done
     tail -n 5 "$work/out" | head -n 1 | grep -q "^summary events $n status 0$"
     ratio=""
     if [ -n "$before" ]; then ratio=$(awk -v a="$best" -v b="$before" 'BEGIN { printf ", ratio %.2f", a / b }'); fi
-    echo "$n operations, $(stat -c %s "$work/trace") bytes: $((best / 1000)).$(printf %03d $((best % 1000))) ms$ratio"
+    echo "$n operations, $(stat -c %s "$work/trace") bytes: $((best / 1000)).$(printf %03d $((best % 1000))) ms$ratio; $memory KiB at most"
     before=$best
 done
