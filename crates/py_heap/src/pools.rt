@@ -3,30 +3,29 @@
 //! Each step that can fail comes before the arena source is asked, and each change after it.
 ghost use Rattle.std.specs.Prelude.{◌≡◌, ℕ, ◌+◌, ◌^◌, ◌<◌, ◌≤◌, [], length, Some, None, replicate, ◌↔◌, IsTrue, IfOk, OnOk, OnErr, IfSome, IfNone};
 ghost use Rattle.mem_base.specs.declared.history.Grant.TheVariants.{NotAsked};
-ghost use Rattle.extents.specs.Sums.{tally, AllIn, Has};
-ghost use Rattle.extents.specs.Extent.{covers, piece_extent};
+ghost use Rattle.extents.specs.Sums.{tally, AllIn};
+ghost use Rattle.extents.specs.Extent.{covers};
 ghost use Rattle.pool_core.specs.Pool.{new_pool};
 ghost use Rattle.sources.specs.Holder.{AskedNothing, Traded};
-ghost use Rattle.heap_view.specs.Ground.{slot_at, total_at};
+ghost use Rattle.heap_view.specs.Ground.{total_at};
 ghost use Rattle.arena_set.specs.Set.{loans_of, regions_of, IsSet};
-ghost use Rattle.arena_set.specs.Calls.{AllIdle, CanMend, IsFirst};
+ghost use Rattle.arena_set.specs.Calls.{AllIdle, IsFirst};
 ghost use Rattle.py_heap.specs.Heap.{empty_heap, Serves};
-ghost use Rattle.py_heap.specs.Frees.{CanComeBack, ComesBack, IsInPool, TakesBack};
 ghost use Rattle.py_heap.specs.Kept.{class_at, heap_of, no_pools, IsKeptState};
 ghost use Rattle.py_heap.specs.Steps.{CanCome, Comes, HasRoomFor, HasRoomForArena, IsFailed, IsServed, OnlyRoom};
 
 use crate::HeapGot;
 use crate::classes::ClassPools;
-use crate::counted::{end_one, first_usable, give_pool, take_pool};
+use crate::counted::{end_one, first_usable, take_pool};
 use crate::marks::{Mark, Marks};
-use arena_set::{ArenaSet, Lent, PoolId};
+use arena_set::{ArenaSet, Lent};
 use mem_base::{Counts, Grant};
 use pool_core::PlainPool;
 use raw_region::{Piece, Region};
 use sources::{ArenaSource, AskError};
 use std::alloc::{AllocError, Global};
 
-const POOL_BYTES: u64 = 16384;
+pub(crate) const POOL_BYTES: u64 = 16384;
 
 // How many classes of sizes there are.
 pub(crate) const CLASSES: usize = 32;
@@ -37,12 +36,12 @@ pub(crate) struct Pools {
     pub(crate) set: ArenaSet,
     // By class.
     pub(crate) classes: Vec<ClassPools>,
-    marks: Marks,
+    pub(crate) marks: Marks,
     // How many pools were taken.
     taken: u64,
     // How many arenas were granted, given back, and out at most.
     given: u64,
-    back: u64,
+    pub(crate) back: u64,
     most: u64,
     // How many blocks are lent.
     pub(crate) pooled: u64,
@@ -53,15 +52,6 @@ fn pool_count(base: u64) -> u8
     ensures { result ≡ total_at base }
 {
     if base % POOL_BYTES == 0 { 64 } else { 63 }
-}
-
-// Which pool of the arena that begins at the base has the address.
-fn pool_number(base: u64, place: u64) -> u8
-    requires { IsInPool base place }
-    ensures { result ≡ slot_at base place }
-{
-    let first = (POOL_BYTES - base % POOL_BYTES) % POOL_BYTES;
-    ((place - base - first) / POOL_BYTES) as u8
 }
 
 // Classes without pools.
@@ -322,62 +312,6 @@ impl Pools {
             }),
             None => self.alloc_new(class, arenas),
         }
-    }
-
-    // The pool of a block.
-    fn pool_of(&self, piece: &Piece) -> PoolId
-        requires kept { IsKeptState (state_of self.now) }
-        requires loan { Has (piece_extent piece.now) (loans_of self.now.set.arenas) }
-        ensures { CanMend self.now.set result piece.now }
-    {
-        let place = piece.place();
-        match self.marks.find(place) {
-            Some(mark) => PoolId {
-                arena: mark.arena,
-                pool: pool_number(mark.base, place),
-            },
-            None => unreachable!(),
-        }
-    }
-
-    // A pool without a block in use goes back to its arena. The answer is the arena's region, where
-    // the arena goes.
-    fn give_back(&mut self, class: u8, pool: PoolId) -> Option<Region>
-        requires come { CanComeBack class pool (state_of self.old) }
-        requires count { self.old.back + 1 < 2 ^ 64 }
-        requires class { class < length self.old.classes.items }
-        ensures { ComesBack class pool result (state_of self.old) (state_of self.new) }
-    {
-        self.classes[class as usize].remove(pool);
-        match give_pool(&mut self.set, pool) {
-            Some(region) => {
-                self.marks.remove(region.base());
-                self.back += 1;
-                Some(region)
-            }
-            None => None,
-        }
-    }
-
-    /// Takes a block back. The answer is the region of its arena, where the arena goes.
-    pub(crate) fn free(&mut self, piece: Piece) -> Option<Region>
-        requires kept { IsKeptState (state_of self.old) }
-        requires loan { Has (piece_extent piece) (loans_of self.old.set.arenas) }
-        ensures kept { IsKeptState (state_of self.new) }
-        ensures back { TakesBack piece result (heap_of (state_of self.old)) (heap_of (state_of self.new)) }
-    {
-        let pool = self.pool_of(&piece);
-        let class = self.set.class(pool);
-        let gave = self.set.mend(pool, piece);
-        self.pooled -= 1;
-        if gave.was_full {
-            self.classes[class as usize].reopen(pool);
-            return None;
-        }
-        if gave.now_empty {
-            return self.give_back(class, pool);
-        }
-        None
     }
 
     /// Whether some arena has the address.
