@@ -1,5 +1,5 @@
 -- What the ways in which a run may end tell of its status.
-use Rattle.std.proofs.Common.{◌≡◌, ℕ, ◌⊎◌, inl, inr, List, [], Option, Some, None, Result, Ok, Err, refl, sym, ap, subst, ◌∙◌, arith, ◌<◌, ◌≤◌, length, Bool, true, false, cond, length-append, true≢false}
+use Rattle.std.proofs.Common.{◌≡◌, ℕ, ◌⊎◌, inl, inr, List, Option, Some, None, Result, Ok, Err, refl, sym, ap, subst, ◌∙◌, arith, ◌<◌, ◌≤◌, length, Bool, true, false, cond, length-append, true≢false}
 use Rattle.std.specs.Prelude.{IfSome}
 use Rattle.std.specs.Io.KnownBytes.{Keeps}
 use Rattle.streams.specs.Faults.{Rose}
@@ -18,7 +18,7 @@ use Rattle.replay_tool.specs.declared.refusal.Refusal.TheVariants.{Usage, Refuse
 use Rattle.replay_tool.specs.Words.{AsksReplay}
 use Rattle.replay_tool.specs.Events.{Ending, whole, cut, ran_out}
 use Rattle.replay_tool.specs.Refusals.{status_of, max_input, IsInputCause, IsCause}
-use Rattle.replay_tool.specs.Served.{NothingOut, Sources, shaped}
+use Rattle.replay_tool.specs.Served.{NothingOut, shaped}
 use Rattle.replay_tool.specs.Ended.{Run, Ran, Told, DidNothing, LeftAlone, Ended, ran, told, untold, never_began, Refusing, told_it, failed, ran_short}
 use Rattle.replay_tool.specs.Outcome.{Cause, IsReplayed, IsTold, IsRefusal, IsCutOff, IsUntold, IsBrokenOff, IsOrYields, RefusesFaulty, RefusesTooMany, ReplaysSpelt}
 

@@ -1,25 +1,22 @@
 -- What a replay keeps from event to event.
 use Rattle.std.proofs.Common.{◌≡◌, inl, inr, ℕ, ◌+◌, ◌<◌, List, [], ◌∷◌, ◌++◌, length, refl, sym, ap, subst, ◌∙◌, append-nil, arith, rules, slice_get, Option, Some, None, true, Result, Ok, Err, ◌≤◌}
 use Rattle.std.specs.Prelude.{IsSome, OnErr, OnOk}
-use Rattle.std.specs.Option.{option_map, option_and_then}
+use Rattle.std.specs.Option.{option_map}
 use Rattle.std.specs.Io.KnownBytes.{Appends, Keeps}
 use Rattle.std.proofs.KnownBytes.{Appends-nil, Appends-trans}
-use Rattle.std.proofs.lemmas.Option.{slice_get-map}
 use Rattle.streams.specs.Faults.{Rose}
 use Rattle.streams.specs.Moves.{WroteFront}
 use Rattle.mem_base.specs.declared.history.Entry.{Entry}
 use Rattle.mem_base.specs.declared.reply.Step.{Step}
 use Rattle.mem_base.specs.declared.trace.Op.{Op}
 use Rattle.mem_base.specs.declared.trace.Trace.{Trace}
-use Rattle.mem_base.specs.declared.trace.Track.{Track}
 use Rattle.trace_model.specs.Known.{IsKnownTrace, op_at}
-use Rattle.trace_model.specs.Plain.{Action, PlainTrack, plain, track_of, action_of, text_at}
-use Rattle.event_model.specs.Effects.{PlainReply}
+use Rattle.trace_model.specs.Plain.{Action, PlainTrack, plain, action_of}
 use Rattle.event_model.specs.Events.{action_after, may_do, left_in}
 use Rattle.event_model.specs.History.{opening, last_state, IsLegal}
 use Rattle.event_model.proofs.HistoryLaws.{legal_push}
 use Rattle.event_model.proofs.LeftLaws.{leaves_less}
-use Rattle.report_model.specs.Report.{lines_for, event_lines, events_text}
+use Rattle.report_model.specs.Report.{lines_for, events_text}
 use Rattle.report_model.proofs.ReportLaws.{one_more}
 use Rattle.domain_api.specs.Held.{AreOut}
 use Rattle.sources.proofs.Holders.{traded_nothing, traded_then}

@@ -1,4 +1,4 @@
--- What the ways in which a run may end tell of its status.
+-- When the words are those that ask for a replay.
 use Rattle.std.proofs.Common.{◌≡◌, ℕ, List, sym, ap, ◌∙◌, arith, ◌<◌, ◌≤◌, [], ◌∷◌, length, get_or, Bool, true}
 use Rattle.std.specs.Prelude.{String, string_bytes, codes}
 use Rattle.std.specs.declared.alloc.Global.{Global}

@@ -3,6 +3,8 @@
 
 mod command;
 mod events;
+#[cfg(test)]
+mod heap_tests;
 mod input;
 mod refusal;
 #[cfg(test)]

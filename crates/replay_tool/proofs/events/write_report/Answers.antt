@@ -1,4 +1,4 @@
-use Rattle.std.proofs.Common.{Err, inl, inr, arith, sym, ap, subst, ◌∙◌}
+use Rattle.std.proofs.Common.{Err, inl, inr, arith, sym, ap, subst}
 use Rattle.mem_base.specs.declared.trace.Side.TheVariants as sides
 use Rattle.machine_core.specs.View.{MachineView, tracks_of}
 use Rattle.replay_tool.specs.Events.{RanOut, TradedBoth}

@@ -1,4 +1,4 @@
-use Rattle.std.proofs.Common.{◌≡◌, ◌≤◌}
+use Rattle.std.proofs.Common.{◌≤◌}
 use Rattle.event_model.specs.Events.{left_in}
 use Rattle.machine_core.specs.View.{tracks_of, state_of}
 use Rattle.domain_api.specs.Held.{AreOut}
