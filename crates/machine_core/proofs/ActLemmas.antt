@@ -14,8 +14,8 @@ use Rattle.mem_base.specs.declared.trace.Op.{Op}
 use Rattle.mem_base.specs.declared.trace.Op.TheVariants as ops
 use Rattle.mem_base.specs.declared.trace.Side.{Side}
 use Rattle.mem_base.specs.declared.trace.Side.TheVariants as sides
-use Rattle.trace_model.specs.Plain.{Name, Action, action_of, text_at, heap}
-use Rattle.extents.specs.Extent.{Extent, AreDisjoint}
+use Rattle.trace_model.specs.Plain.{Name, action_of, text_at, heap}
+use Rattle.extents.specs.Extent.{Extent}
 use Rattle.extents.specs.Sums.{AllIn}
 use Rattle.sources.specs.Holder.{Answered, AskedNothing, Traded}
 use Rattle.sources.specs.Source.{ArenaShape, SourceView}
@@ -28,10 +28,10 @@ use Rattle.event_model.specs.Effects.{State, PlainReply, made, freed, written, r
 use Rattle.event_model.specs.Plans.{GrowsBy, lists}
 use Rattle.event_model.specs.Requests.{malloc_request, request_of}
 use Rattle.domain_api.specs.Domains.{view_of_both}
-use Rattle.domain_api.specs.Held.{AllWithin, AreHeld, DomainsView}
+use Rattle.domain_api.specs.Held.{AreHeld, DomainsView}
 use Rattle.event_model.specs.Replies.{plain_reply}
 use Rattle.machine_core.specs.declared.store.Acted.{Acted}
-use Rattle.machine_core.specs.Acts.{Acts, Asks, Done, Does, Fails, StandsFor, told_where, told}
+use Rattle.machine_core.specs.Acts.{Acts, Asks, Does, Fails, StandsFor, told_where, told}
 use Rattle.machine_core.specs.Slots.{IsStore, IsTurn, block_at, standing}
 use Rattle.machine_core.proofs.CountLemmas.{view_is}
 use Rattle.machine_core.proofs.SlotLemmas.{lock_does, name_holds, turn_does}
@@ -191,10 +191,6 @@ heap_lists op side is = subst (λ (o : Op). ListsNone o side) (sym is) (by side)
     by sides.Raw = λ texts asked m. refl
 
 -- ---- want of memory
-
-pub on_err_all : {T E P : Type 0} (r : Result T E) → P → OnErr r P
-on_err_all (Ok x) p = tt
-on_err_all (Err e) p = p
 
 -- nothing happened
 pub nothing_fails : {S : Type 0} (held : List Extent) (old new : SourceView S) → AllIn held old.out → new ≡ old → Fails held old new

@@ -1,15 +1,13 @@
 -- How many blocks lie in pools, and how many in raw regions.
-use Rattle.std.proofs.Common.{◌≡◌, ℕ, ◌+◌, ◌≤◌, List, [], ◌∷◌, ◌++◌, length, map, Option, Some, None, refl, sym, ap, ◌∙◌, arith, inl, inr}
+use Rattle.std.proofs.Common.{◌≡◌, ℕ, ◌+◌, List, [], ◌∷◌, length, Option, Some, None, refl, sym, ap, ◌∙◌, arith, inl, inr}
 use Rattle.std.specs.Prelude.{sum_by}
 use Rattle.std.proofs.lemmas.List.Sums.{sum_by-cons}
-use Rattle.mem_base.specs.declared.reply.View.{View}
 use Rattle.trace_model.specs.Plain.{Name}
 use Rattle.block_model.specs.Block.{size_of}
 use Rattle.extents.specs.Extent.{Extent}
 use Rattle.extents.specs.Sums.{tally, Has}
-use Rattle.extents.proofs.Lists.{has_left, has_right, tally-append, tally_length, tally_zero}
-use Rattle.debug_guard.specs.Guard.{Guard, guard_extent}
-use Rattle.layout_model.specs.Layout.{Layout}
+use Rattle.extents.proofs.Lists.{has_left, tally-append, tally_zero}
+use Rattle.debug_guard.specs.Guard.{Guard}
 use Rattle.layout_model.specs.View.{shape_of}
 use Rattle.event_model.specs.Blocks.{Block, Home, in_pool, pool_count, pool_times, raw_count, raw_times}
 use Rattle.event_model.specs.Effects.{State, view_of}
@@ -30,10 +28,10 @@ by_extents f places [] = refl
 by_extents f places (None ∷ ss) = omega (arith, by_extents f places ss, sum_by-cons (home_of f) None (blocks_of places ss))
 by_extents f places (Some g ∷ ss) = omega (arith, by_extents f places ss, sum_by-cons (home_of f) (block_in places (Some g)) (blocks_of places ss))
 
--- a measure that is the same over a list
-tally_same : (f : Extent → ℕ) (n : ℕ) (es : List Extent) → n ≤ 1 → ((e : Extent) → Has e es → f e ≡ 1) → tally f es ≡ length es
-tally_same f n [] few is = refl
-tally_same f n (e ∷ es) few is = omega (arith, is e (inl refl), tally_same f n es few (λ d has. is d (inr has)))
+-- a measure that is 1 at each item of a list
+tally_same : (f : Extent → ℕ) (es : List Extent) → ((e : Extent) → Has e es → f e ≡ 1) → tally f es ≡ length es
+tally_same f [] is = refl
+tally_same f (e ∷ es) is = omega (arith, is e (inl refl), tally_same f es (λ d has. is d (inr has)))
 
 module _ (slots : List (Option Guard)) (d : DomainsView) (store : IsStore slots d) where
   abbrev places : Places
@@ -52,14 +50,14 @@ module _ (slots : List (Option Guard)) (d : DomainsView) (store : IsStore slots 
 
   pub pools_are : sum_by (home_of pool_times) (blocks_of places slots) ≡ length d.heap.loans
   pools_are =
-      let pooled : tally (at_home pool_times) d.heap.loans ≡ length d.heap.loans = tally_same (at_home pool_times) 1 d.heap.loans (omega arith) (λ e has. ap pool_times (pooled_home e has).1) in
+      let pooled : tally (at_home pool_times) d.heap.loans ≡ length d.heap.loans = tally_same (at_home pool_times) d.heap.loans (λ e has. ap pool_times (pooled_home e has).1) in
       let none : tally (at_home pool_times) d.raws ≡ 0 = tally_zero (at_home pool_times) d.raws (λ e has. ap pool_times (store.raw_homes e has)) in
       omega (arith, all_homes pool_times, pooled, none)
 
   pub raws_are : sum_by (home_of raw_times) (blocks_of places slots) ≡ length d.raws
   raws_are =
       let none : tally (at_home raw_times) d.heap.loans ≡ 0 = tally_zero (at_home raw_times) d.heap.loans (λ e has. ap raw_times (pooled_home e has).1) in
-      let raws : tally (at_home raw_times) d.raws ≡ length d.raws = tally_same (at_home raw_times) 1 d.raws (omega arith) (λ e has. ap raw_times (store.raw_homes e has)) in
+      let raws : tally (at_home raw_times) d.raws ≡ length d.raws = tally_same (at_home raw_times) d.raws (λ e has. ap raw_times (store.raw_homes e has)) in
       omega (arith, all_homes raw_times, none, raws)
 
   module _ (texts : List Name) (owner : Option ℕ) (s : State) (stands : StandsFor texts (standing slots d owner) s) where

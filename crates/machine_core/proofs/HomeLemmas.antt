@@ -1,12 +1,12 @@
 -- Where blocks lie, as pools and raw regions come and go.
-use Rattle.std.proofs.Common.{◌≡◌, ◌≢◌, ℕ, zero, suc, ◌+◌, ◌<◌, ◌≤◌, Bool, true, false, cond, List, [], ◌∷◌, ◌++◌, length, get_or, map, set, Option, Some, None, refl, sym, ap, subst, ◌∙◌, arith, inl, inr, ◌⊎◌, true≢false}
+use Rattle.std.proofs.Common.{◌≡◌, ℕ, zero, suc, ◌+◌, ◌≤◌, Bool, true, false, cond, List, [], ◌∷◌, length, get_or, Option, Some, None, refl, sym, ap, ◌∙◌, arith, inl, inr, true≢false}
 use Rattle.std.specs.Prelude.{◌&&◌, nat_le, nat_lt}
 use Rattle.std.proofs.lemmas.Bool.{le-leb, leb-true, lt-ltb, ltb-true}
 use Rattle.std.proofs.lemmas.Bool.Decides.{eqb_tells}
-use Rattle.extents.specs.Extent.{Extent, Window, AreApart, AreDisjoint, LiesIn, covers, piece_extent, spans}
-use Rattle.extents.specs.Sums.{tally, Has, Inserted, Removed}
+use Rattle.extents.specs.Extent.{Extent, Window, AreApart, covers, spans}
+use Rattle.extents.specs.Sums.{tally, Has}
 use Rattle.extents.proofs.Addresses.{covers_in, covers_most, lies_spans, spans_tells}
-use Rattle.extents.proofs.Lists.{has_kept, tally-append, tally_zero}
+use Rattle.extents.proofs.Lists.{tally-append, tally_zero}
 use Rattle.raw_region.specs.Region.{PieceView}
 use Rattle.mem_base.specs.declared.history.Grant.{Grant}
 use Rattle.sources.specs.Source.{ArenaShape, SourceView}
@@ -136,7 +136,7 @@ home_of_raw d arenas raws e heap held has some =
     let r = within.0 in
     let mine : spans e.place raws.window ≡ 1 = lies_spans e.place e raws.window (held.raws_in e has) (covers_in e.place e (omega arith) (omega (arith, some))) in
     let theirs : spans e.place arenas.window ≡ 1 = lies_spans e.place r arenas.window (held.arenas_in r within.1.0)
-        (covers_in e.place r (omega (arith, inside.0, within.1.1.inside.0)) (omega (arith, inside.1, within.1.1.inside.1))) in
+    (covers_in e.place r (omega (arith, inside.0, within.1.1.inside.0)) (omega (arith, inside.1, within.1.1.inside.1))) in
     omega (arith, mine, theirs, held.windows e.place))
 
 -- ---- blocks of both heaps lie apart
@@ -163,9 +163,13 @@ loans_within h w heap within e has =
 
 pub loans_apart : (d : DomainsView) (arenas : SourceView ArenaShape) (raws : SourceView ℕ) → AreSound d.heap d.raws → AreHeld d arenas raws → AreApart (loans_of d)
 loans_apart d arenas raws sound held x =
-    omega (arith, tally-append (covers x) d.heap.loans d.raws, held.windows x,
-    tally_spans d.heap.loans arenas.window x (loans_within d.heap arenas.window sound.heap_is held.arenas_in) sound.heap_is.apart,
-    tally_spans d.raws raws.window x held.raws_in sound.raws_apart)
+    omega (
+      arith,
+      tally-append (covers x) d.heap.loans d.raws,
+      held.windows x,
+      tally_spans d.heap.loans arenas.window x (loans_within d.heap arenas.window sound.heap_is held.arenas_in) sound.heap_is.apart,
+      tally_spans d.raws raws.window x held.raws_in sound.raws_apart,
+    )
 
 -- ---- the blocks of slots
 

@@ -1,18 +1,18 @@
 -- Where a request leads, by the answers that fit it.
-use Rattle.std.proofs.Common.{◌≡◌, ◌≢◌, ℕ, Bool, true, false, cond, Option, Some, None, refl, sym, ap, subst, ◌∙◌, true≢false}
+use Rattle.std.proofs.Common.{◌≡◌, ℕ, Bool, true, false, cond, Option, Some, None, refl, sym, ap, ◌∙◌, true≢false}
 use Rattle.std.specs.Prelude.{◌&&◌, ◌||◌, not, IsNone}
 use Rattle.mem_base.specs.declared.history.Ask.{Ask}
 use Rattle.mem_base.specs.declared.history.Grant.{Grant}
 use Rattle.mem_base.specs.declared.history.Grant.TheVariants as grant
 use Rattle.mem_base.specs.declared.trace.Letter.{Letter}
 use Rattle.mem_base.specs.declared.trace.Letter.TheVariants.{Raw, Mem, Obj}
-use Rattle.layout_model.specs.Asks.{FitsClass, FitsRequest, Request, class_asks, is_refused, raw_was_asked, was_asked}
-use Rattle.layout_model.specs.Asks.Request.{FromPools, FromRaw, NoRequest}
+use Rattle.layout_model.specs.Asks.{FitsClass, FitsRequest, class_asks, is_refused, raw_was_asked}
+use Rattle.layout_model.specs.Asks.Request.{FromPools}
 use Rattle.layout_model.specs.Layout.{Layout}
 use Rattle.layout_model.specs.Place.{place}
 use Rattle.layout_model.specs.Sizes.{class_of, is_small, need}
 use Rattle.layout_model.proofs.Asks.{only_refusals_place_nothing}
-use Rattle.event_model.specs.Blocks.{Home, in_pool}
+use Rattle.event_model.specs.Blocks.{in_pool}
 use Rattle.event_model.specs.Effects.{Housing, housed, pool_home, raw_home, request}
 
 is_none : {X : Type 0} (o : Option X) → IsNone o → o ≡ None

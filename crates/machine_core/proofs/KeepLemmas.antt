@@ -1,23 +1,22 @@
 -- The blocks of both heaps, as one comes or goes.
-use Rattle.std.proofs.Common.{◌≡◌, ℕ, ◌+◌, ◌<◌, ◌≤◌, List, [], ◌∷◌, ◌++◌, length, get_or, set, replicate, map, Option, Some, None, refl, sym, ap, subst, ◌∙◌, arith, inl, inr, ◌⊎◌, length-append}
-use Rattle.std.specs.Prelude.{◌%◌, IfSome, IfNone}
+use Rattle.std.proofs.Common.{◌≡◌, ℕ, ◌<◌, ◌≤◌, List, [], ◌∷◌, ◌++◌, length, get_or, set, replicate, Option, Some, None, refl, sym, ap, subst, ◌∙◌, inl, inr}
+use Rattle.std.specs.Prelude.{IfSome, IfNone}
 use Rattle.std.specs.Option.{option_map}
 use Rattle.std.proofs.lemmas.Bool.Decides.{eqb_tells}
 use Rattle.std.proofs.lemmas.List.{get_or-set_same, get_or-set_other, map-set}
 use Rattle.mem_base.specs.declared.trace.Letter.{Letter}
-use Rattle.raw_region.specs.Region.{PieceView}
-use Rattle.extents.specs.Extent.{Extent, AreApart, piece_extent}
+use Rattle.extents.specs.Extent.{Extent}
 use Rattle.extents.specs.Sums.{Has, Inserted, Removed}
-use Rattle.extents.proofs.Lists.{has_either, has_kept, has_left, has_right, inserted_left, inserted_right}
+use Rattle.extents.proofs.Lists.{has_either, has_left, has_right, inserted_left, inserted_right}
 use Rattle.sources.specs.Source.{ArenaShape, SourceView}
 use Rattle.debug_guard.specs.Guard.{Guard, guard_extent}
-use Rattle.py_heap.specs.Heap.{HeapView, IsBlock, IsFreed as IsFreedOfHeap, IsGot, empty_heap}
+use Rattle.py_heap.specs.Heap.{HeapView, empty_heap}
 use Rattle.layout_model.specs.Sizes.{class_of, need}
 use Rattle.domain_api.specs.Domains.{IsGivenUp, IsLent}
 use Rattle.domain_api.specs.Held.{AreHeld, AreSound, DomainsView, IsLoan}
 use Rattle.domain_api.specs.declared.answers.Asked.{Asked}
-use Rattle.event_model.specs.Blocks.{Home, in_raw, Block}
-use Rattle.machine_core.specs.Slots.{Places, IsStore, IsStored, block_in, blocks_of, home_at, loans_of, extents_of}
+use Rattle.event_model.specs.Blocks.{Block}
+use Rattle.machine_core.specs.Slots.{Places, IsStore, IsStored, block_in, blocks_of, home_at, loans_of}
 use Rattle.machine_core.proofs.HomeLemmas.{SameHomes, blocks_same, home_of_raw, home_where_placed, home_where_freed, loans_apart}
 use Rattle.machine_core.proofs.StoreLemmas.{stored_has, stored_long, stored_more, stored_fewer, stored_kept, stored_none, stored_pop_none, stored_pop_some, last_has, none_in}
 

@@ -1,5 +1,5 @@
 -- The spots of blocks in slots.
-use Rattle.std.proofs.Common.{◌≡◌, ℕ, zero, suc, ◌+◌, ◌<◌, Bool, true, false, cond, List, [], ◌∷◌, ◌++◌, length, get_or, take, Option, Some, None, refl, sym, ap, subst, ◌∙◌, arith, inl, inr, ◌⊎◌, length-append}
+use Rattle.std.proofs.Common.{◌≡◌, ℕ, zero, suc, ◌+◌, ◌<◌, ◌≤◌, Bool, true, false, cond, List, [], ◌∷◌, ◌++◌, length, get_or, take, Option, Some, None, refl, sym, ap, subst, ◌∙◌, arith, inl, inr, ◌⊎◌, length-append}
 use Rattle.std.specs.Prelude.{◌==◌, is_some}
 use Rattle.std.proofs.lemmas.Bool.Decides.{eqb_tells}
 use Rattle.std.proofs.lemmas.List.{length-take-le}
@@ -11,17 +11,17 @@ use Rattle.event_model.specs.History.{last_state}
 use Rattle.block_model.specs.Block.{image_of}
 use Rattle.domain_api.specs.Held.{DomainsView}
 use Rattle.event_model.specs.Blocks.{Block}
-use Rattle.extents.specs.Extent.{Extent, covers}
+use Rattle.extents.specs.Extent.{covers}
 use Rattle.extents.specs.Sums.{tally, Has}
 use Rattle.debug_guard.specs.Guard.{Guard, guard_extent, piece_of}
 use Rattle.extents.proofs.Lists.{has_left, has_right}
-use Rattle.machine_core.specs.Slots.{Places, IsStore, block_at, block_in, extents_of, home_at, loans_of, pieces_of, piece_in}
-use Rattle.machine_core.specs.Spots.{names, has_address, spots_from, spot_at, AreSpots, IsSpot, LiesInOne}
+use Rattle.machine_core.specs.Slots.{IsStore, block_in, extents_of, home_at, pieces_of, piece_in}
+use Rattle.machine_core.specs.Spots.{names, has_address, spots_from, spot_at, AreSpots, GoUpFrom, IsSpot, LiesInOne}
 use Rattle.machine_core.specs.Stands.{IsMachine}
 use Rattle.machine_core.specs.View.{MachineView}
 use Rattle.machine_core.specs.declared.spot.Spot.{Spot}
 use Rattle.machine_core.proofs.SlotLemmas.{blocks_length, name_holds}
-use Rattle.machine_core.proofs.StoreLemmas.{length-image_of, stored_has}
+use Rattle.machine_core.proofs.StoreLemmas.{length-image_of}
 use Rattle.machine_core.proofs.KeepLemmas.{slot_loan}
 
 -- one more slot
@@ -111,6 +111,17 @@ addresses x k [] = refl
 addresses x k (None ∷ ss) = addresses x (k + 1) ss
 addresses x k (Some g ∷ ss) = ap (λ (n : ℕ). covers x (guard_extent g) + n) (addresses x (k + 1) ss)
 
+-- ---- the order of spots
+
+go_up_sooner : (j k : ℕ) (spots : List Spot) → j ≤ k → GoUpFrom k spots → GoUpFrom j spots
+go_up_sooner j k [] le up = tt
+go_up_sooner j k (spot ∷ spots) le up = (omega (arith, le, up.0), up.1)
+
+spots_go_up : (k : ℕ) (slots : List (Option Guard)) → GoUpFrom k (spots_from k slots)
+spots_go_up k [] = tt
+spots_go_up k (None ∷ ss) = go_up_sooner k (k + 1) (spots_from (k + 1) ss) (omega arith) (spots_go_up (k + 1) ss)
+spots_go_up k (Some g ∷ ss) = (omega arith, spots_go_up (k + 1) ss)
+
 -- ---- a spot's block
 
 piece_at : (slots : List (Option Guard)) (i : ℕ) (g : Guard) → get_or slots i None ≡ Some g → get_or (pieces_of slots) i None ≡ Some (piece_of g)
@@ -167,4 +178,5 @@ module _ (trace : Trace) (es : List Entry) (slots : List (Option Guard)) (d : Do
         ∙ ap (λ (b : Bool). cond b 1 0) (sym (live_same (get_or slots i None)))
         ∙ ap (λ (o : Option Block). cond (is_some o) 1 0) (sym (name_holds trace.texts d.heap.places slots (last_state (plain trace).tracks es).blocks name machine.stands.state.blocks known));
     apart = λ x. omega (arith, ap (tally (has_address x)) are, addresses x 0 slots, machine.store.stored.all (covers x), machine.store.stored.apart x);
+    ordered = subst (GoUpFrom 0) (sym are) (spots_go_up 0 slots);
   }

@@ -1,21 +1,19 @@
 -- One event more: the state, and that the history stays legal.
-use Rattle.std.proofs.Common.{◌≡◌, ℕ, zero, suc, ◌+◌, ◌-◌, ◌<◌, ◌≤◌, Bool, true, false, cond, List, [], ◌∷◌, ◌++◌, length, get_or, slice_get, set, map, Option, Some, None, refl, sym, ap, subst, ◌∙◌, arith, length-set, length-append, take, replicate}
-use Rattle.std.specs.Prelude.{slice_index, IfSome, IfNone, IfOk, OnErr, Result, Ok, Err, sum_by}
+use Rattle.std.proofs.Common.{◌≡◌, ℕ, zero, suc, ◌+◌, ◌-◌, ◌<◌, ◌≤◌, Bool, true, false, cond, List, [], ◌∷◌, ◌++◌, length, get_or, slice_get, set, map, Option, Some, None, refl, sym, ap, subst, ◌∙◌, arith, length-set, length-append, replicate}
+use Rattle.std.specs.Prelude.{slice_index, IfSome, IfNone, sum_by}
 use Rattle.std.specs.Option.{option_map, option_and_then}
 use Rattle.std.proofs.lemmas.Option.{slice_get_within, slice_get-map, slice_get-get_or, slice_get_past}
-use Rattle.std.proofs.Math.Seq.{take-append_seam}
 use Rattle.std.proofs.lemmas.List.{length-map, length-replicate}
 use Rattle.std.proofs.lemmas.List.Sums.{sum_by-cons}
 use Rattle.mem_base.specs.Texts.{IsTable}
 use Rattle.mem_base.specs.declared.history.Entry.{Entry}
-use Rattle.mem_base.specs.declared.reply.Step.{Step}
 use Rattle.mem_base.specs.declared.trace.Op.{Op}
 use Rattle.mem_base.specs.declared.trace.Side.{Side}
 use Rattle.mem_base.specs.declared.trace.Trace.{Trace}
 use Rattle.mem_base.specs.declared.trace.Track.{Track}
 use Rattle.trace_model.specs.Known.{op_at, op_count, IsKnownTrace}
 use Rattle.trace_model.specs.Plain.{Name, Action, PlainTrack, track_of, tracks_of, action_of, plain}
-use Rattle.layout_model.specs.Asks.{FitsRequest, Request}
+use Rattle.layout_model.specs.Asks.{FitsRequest}
 use Rattle.layout_model.specs.Layout.{Layout, empty_layout}
 use Rattle.event_model.specs.Effects.{State, PlainReply, effect}
 use Rattle.event_model.specs.Events.{event, event_of, settled, advanced, is_fault, let_go, action_after, next_action, may_do, is_ready}
@@ -27,12 +25,11 @@ use Rattle.event_model.proofs.TakenLaws.{few_taken as few_taken_in}
 use Rattle.trace_model.specs.Spelling.{action_count}
 use Rattle.event_model.specs.Plans.{GrowsBy, lists}
 use Rattle.extents.specs.Extent.{Extent}
-use Rattle.extents.specs.Sums.{AllIn}
 use Rattle.sources.specs.Source.{SourceView}
 use Rattle.sources.specs.Holder.{Answered}
 use Rattle.domain_api.specs.Held.{DomainsView, FewTaken}
 use Rattle.event_model.specs.Blocks.{Block}
-use Rattle.machine_core.specs.Acts.{Acts, Asks, Done, Does, Fails, StandsFor}
+use Rattle.machine_core.specs.Acts.{Acts, Asks, Done}
 use Rattle.machine_core.specs.View.{Requests}
 use Rattle.debug_guard.specs.Guard.{Guard}
 use Rattle.machine_core.specs.Slots.{Holds, Places, Standing, blocks_of}
@@ -278,12 +275,6 @@ some_weaker (Some a) P Q f h = f a h
 pub none_weaker : {A : Type 0} (o : Option A) (P Q : Type 0) → (P → Q) → IfNone o P → IfNone o Q
 none_weaker None P Q f h = f h
 none_weaker (Some a) P Q f h = tt
-
--- taking off what was just added leaves what was there
-pub undone : {A : Type 0} (xs ys zs : List A) (x : A) → ys ≡ xs ++ x ∷ [] → zs ≡ take (length ys - 1) ys → zs ≡ xs
-undone xs ys zs x pushed popped =
-    let shorter : length (xs ++ x ∷ []) - 1 ≡ length xs = omega (arith, length-append xs (x ∷ [])) in
-    popped ∙ ap (λ (l : List _). take (length l - 1) l) pushed ∙ ap (λ (n : ℕ). take n (xs ++ x ∷ [])) shorter ∙ take-append_seam xs (x ∷ [])
 
 set_last : {A : Type 0} (xs : List A) (x y : A) → set (xs ++ x ∷ []) (length xs) y ≡ xs ++ y ∷ []
 set_last [] x y = refl

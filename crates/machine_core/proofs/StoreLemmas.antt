@@ -1,7 +1,7 @@
 -- The memory of the blocks in slots, as a block comes or goes.
 use Rattle.std.proofs.Common.{◌≡◌, ℕ, zero, suc, ◌+◌, ◌<◌, ◌≤◌, Bool, cond, List, [], ◌∷◌, ◌++◌, length, get_or, set, replicate, Option, Some, None, refl, sym, ap, subst, ◌∙◌, arith, inl, inr, length-append, true≢false}
 use Rattle.std.specs.Option.{option_map}
-use Rattle.std.specs.Prelude.{◌%◌, ◌==◌, if◌then◌else◌, IfSome, IfNone, IsSome}
+use Rattle.std.specs.Prelude.{◌%◌, ◌==◌, if◌then◌else◌, IsSome}
 use Rattle.std.proofs.lemmas.Bool.Decides.{eqb_tells}
 use Rattle.std.proofs.lemmas.List.{get_or-set_same, get_or-set_other, set-get_or}
 use Rattle.std.specs.Int.{to_be_bytes, w64}
@@ -205,17 +205,6 @@ stored_pop_none slots loans stored =
       apart = stored.apart;
       aligned = λ i h is. stored.aligned i h (at_front slots None i h is);
     }
-
--- the memory of the last slot's block is one of the extents
-pub drop_loan : (slots : List Slot) (last : Slot) (loans : List Extent) → IsStored (slots ++ last ∷ []) loans → IfSome last (λ g. Has (guard_extent g) loans)
-drop_loan slots None loans stored = tt
-drop_loan slots (Some g) loans stored = last_has slots g loans stored
-
--- the last slot goes, and the memory of its block
-pub drop_stored : (slots : List Slot) (last : Slot) (loans fewer : List Extent) → IsStored (slots ++ last ∷ []) loans
-    → IfSome last (λ g. Removed (guard_extent g) loans fewer) → IfNone last (fewer ≡ loans) → AreApart fewer → IsStored slots fewer
-drop_stored slots None loans fewer stored gone same apart = subst (IsStored slots) (sym same) (stored_pop_none slots loans stored)
-drop_stored slots (Some g) loans fewer stored gone same apart = stored_pop_some slots g loans fewer stored gone apart
 
 -- no block at any number
 pub none_in : (n i : ℕ) → at (replicate n None) i ≡ None

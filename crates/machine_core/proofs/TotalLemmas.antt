@@ -1,10 +1,9 @@
 -- The numbers of a machine's summary.
-use Rattle.std.proofs.Common.{◌≡◌, ℕ, ◌+◌, ◌-◌, Bool, List, [], ◌∷◌, length, Option, Some, refl, sym, ap, ◌∙◌, arith}
+use Rattle.std.proofs.Common.{◌≡◌, ℕ, ◌-◌, Bool, List, [], ◌∷◌, length, Option, Some, refl, sym, ap, ◌∙◌, arith}
 use Rattle.std.specs.Prelude.{sum_by}
 use Rattle.std.proofs.lemmas.List.Sums.{sum_by-cons}
 use Rattle.mem_base.specs.declared.history.Entry.{Entry}
 use Rattle.mem_base.specs.declared.reply.Counts.{Counts}
-use Rattle.mem_base.specs.declared.reply.Totals.{Totals}
 use Rattle.mem_base.specs.declared.trace.Trace.{Trace}
 use Rattle.trace_model.specs.Plain.{Name, plain}
 use Rattle.debug_guard.specs.Guard.{Guard}
@@ -26,9 +25,9 @@ module _ (slots : List (Option Guard)) (d : DomainsView) (store : IsStore slots 
   counts_are : (c : Counts) → HasCounts d c → c ≡ counts_of s
   counts_are c has =
       let out : c.out ≡ s.layout.given - s.layout.back =
-          let g : d.heap.layout.given ≡ s.layout.given = ap (λ (l : Layout). l.given) stands.layout in
-          let b : d.heap.layout.back ≡ s.layout.back = ap (λ (l : Layout). l.back) stands.layout in
-          omega (arith, has.out, store.sound.heap_is.out, g, b) in
+      let g : d.heap.layout.given ≡ s.layout.given = ap (λ (l : Layout). l.given) stands.layout in
+      let b : d.heap.layout.back ≡ s.layout.back = ap (λ (l : Layout). l.back) stands.layout in
+      omega (arith, has.out, store.sound.heap_is.out, g, b) in
       λ i. record {
         given = (has.given ∙ ap (λ (l : Layout). l.given) stands.layout) i;
         back = (has.back ∙ ap (λ (l : Layout). l.back) stands.layout) i;

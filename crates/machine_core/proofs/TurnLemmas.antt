@@ -12,7 +12,6 @@ use Rattle.mem_base.specs.declared.reply.Fault.TheVariants.{Unlocked, BadId, Bad
 use Rattle.mem_base.specs.declared.trace.Letter.{Letter}
 use Rattle.block_model.specs.Block.{Body, finding_in, report_of, fresh, new_byte, reaches, peeked, poked}
 use Rattle.extents.specs.Extent.{Extent}
-use Rattle.extents.specs.Sums.{Has}
 use Rattle.extents.proofs.Lists.{has_new}
 use Rattle.sources.specs.Source.{ArenaShape, SourceView}
 use Rattle.debug_guard.specs.Guard.{Guard, guard_extent}
@@ -23,8 +22,7 @@ use Rattle.layout_model.specs.Sizes.{class_of, need}
 use Rattle.py_heap.specs.Heap.{HeapView}
 use Rattle.event_model.specs.Blocks.{Home, in_pool, in_raw, Block}
 use Rattle.event_model.specs.Effects.{Housing, Turn, PlainReply, Decision, decision, decided, housed, new_block, raw_home, request, turn_to, left_by, too_great, lacks_lock, asks, made, freed, read, written, checked, given_up, is_unlocked, busy, ok, null, unlocked, fault, bytes, outside}
-use Rattle.event_model.specs.Requests.{malloc_request}
-use Rattle.domain_api.specs.Domains.{IsMade, IsFreed, IsGivenUp, IsLent, not_asked}
+use Rattle.domain_api.specs.Domains.{IsMade, IsFreed, IsGivenUp, IsLent}
 use Rattle.domain_api.specs.Held.{AreHeld, AreSound, DomainsView}
 use Rattle.domain_api.specs.declared.answers.Asked.{Asked}
 use Rattle.domain_api.specs.declared.answers.Freed.{Freed}
@@ -32,7 +30,7 @@ use Rattle.domain_api.specs.declared.answers.Freed.TheVariants as frees
 use Rattle.domain_api.specs.declared.answers.Got.{Got}
 use Rattle.domain_api.specs.declared.answers.Got.TheVariants as gots
 use Rattle.machine_core.specs.Reply.{answer_to, answer_after, fault_answer}
-use Rattle.machine_core.specs.Slots.{IsStore, IsTurn, Places, block_at, block_in, home_at, slots_with, slots_after}
+use Rattle.machine_core.specs.Slots.{IsStore, IsTurn, block_at, block_in, home_at, slots_with, slots_after}
 use Rattle.machine_core.proofs.HomeLemmas.{home_of_freed, home_of_new, home_of_raw}
 use Rattle.machine_core.proofs.HousedLemmas.{housed_in_pool, housed_in_raw}
 use Rattle.machine_core.proofs.KeepLemmas.{gone_homes, gone_store, gone_stored, drop_blocks, left_others, lent_homes, lent_store, put_blocks}
@@ -159,9 +157,9 @@ module _ (old new : DomainsView) (arenas : SourceView ArenaShape) (raws : Source
       let at = lies v n g asked is.1.0 is.1.1 in
       let f = made v n locked asked.arena asked.raw in
       let turn : f old.heap.layout (block_at old.heap.places slots i) ≡ turn_to (Some (record { body = fresh v n new_byte; home = at.home })) new.heap.layout ok =
-          made_is slots old i v n locked asked.arena asked.raw asks free is.0 ∙ settled_is v n asked.arena asked.raw old.heap.layout (Some at.home) new.heap.layout at.housing in
+      made_is slots old i v n locked asked.arena asked.raw asks free is.0 ∙ settled_is v n asked.arena asked.raw old.heap.layout (Some at.home) new.heap.layout at.housing in
       let block : block_in new.heap.places (Some g) ≡ Some (record { body = fresh v n new_byte; home = at.home }) =
-          (let f : Block → Option Block = λ b. Some b in ap f (λ j. record { body = is.1.1.body j; home = at.there j })) in
+      (let f : Block → Option Block = λ b. Some b in ap f (λ j. record { body = is.1.1.body j; home = at.there j })) in
       turn_sets slots old new i (Some g) f ok
       (put_blocks slots i (Some g) old.heap.places new.heap.places (lent_homes old new arenas raws sound held slots v n g asked store is.1.1))
       (block ∙ sym (ap (λ (t : Turn). t.block) turn)) (sym (ap (λ (t : Turn). t.layout) turn)) (sym (ap (λ (t : Turn). t.answer) turn))
@@ -199,8 +197,8 @@ module _ (old new : DomainsView) (arenas : SourceView ArenaShape) (raws : Source
     | inl small ↦
         let long : 1 ≤ (guard_extent g).len = some_bytes g in
         let home : home_at old.heap.places g.place ≡ in_pool small.2.pool =
-            ap (λ (e : Extent). home_at old.heap.places e.place) (sym small.1)
-            ∙ home_of_freed small.0 old.heap new.heap store.sound.heap_is small.2 (subst (λ (e : Extent). 1 ≤ e.len) (sym small.1) long) in
+        ap (λ (e : Extent). home_at old.heap.places e.place) (sym small.1)
+        ∙ home_of_freed small.0 old.heap new.heap store.sound.heap_is small.2 (subst (λ (e : Extent). 1 ≤ e.len) (sym small.1) long) in
         small.2.layout ∙ sym (ap (left_by old.heap.layout) home)
     | inr large ↦
         ap (λ (h : HeapView). h.layout) large.0
@@ -213,7 +211,7 @@ module _ (old new : DomainsView) (arenas : SourceView ArenaShape) (raws : Source
       let l = old.heap.layout in
       let block : Block = record { body = g.body; home = home_at old.heap.places g.place } in
       let turn : freed v locked l (block_at old.heap.places slots i) ≡ turn_to None (left_by l block.home) ok =
-          free_is slots old i g v locked None here is.0 is.1 in
+      free_is slots old i g v locked None here is.0 is.1 in
       let rest = gone_stored old new arenas raws sound held slots i g store lt here is.2 in
       let homes = gone_homes old new arenas raws sound held slots (set slots i None) g store rest (left_others slots i lt) is.2 in
       turn_sets slots old new i None (freed v locked) ok (drop_blocks slots i old.heap.places new.heap.places homes)
@@ -260,33 +258,6 @@ nothing_turn slots d i v locked free has =
 
 pub no_request : (l : Layout) → FitsRequest l NoRequest grant.NotAsked ask.NotAsked
 no_request l = record { arena_asked = refl; raw_asked = refl; pools = tt }
-
-busy_request : (places : Places) (o : Option Guard) (v : Letter) (n : ℕ) (x : Decision) → is_some o ≡ true → malloc_request v n (block_in places o) x ≡ NoRequest
-busy_request places None v n x h = absurd (true≢false (sym h))
-busy_request places (Some g) v n x h = refl
-
-pub busy_fits : (slots : Slots) (d : DomainsView) (i : ℕ) (v : Letter) (n : ℕ) (x : Decision) → is_some (get_or slots i None) ≡ true
-    → FitsRequest d.heap.layout (malloc_request v n (block_at d.heap.places slots i) x) grant.NotAsked ask.NotAsked
-busy_fits slots d i v n x some = subst (λ (r : _). FitsRequest d.heap.layout r grant.NotAsked ask.NotAsked) (sym (busy_request d.heap.places (get_or slots i None) v n x some)) (no_request d.heap.layout)
-
--- the answers to a request fit it
-pub made_fits : (slots : Slots) (i : ℕ) (v : Letter) (n : ℕ) (locked : Bool) (old new : DomainsView) (got : Got) (asked : Asked) → get_or slots i None ≡ None → IsMade v n locked old new got asked
-    → FitsRequest old.heap.layout (malloc_request v n (block_at old.heap.places slots i) (decision v n locked)) asked.arena asked.raw
-made_fits slots i v n locked old new got asked free is =
-    subst (λ (o : Option Guard). FitsRequest old.heap.layout (malloc_request v n (block_in old.heap.places o) (decision v n locked)) asked.arena asked.raw) (sym free) (by got is)
-  where
-    came : (decision v n locked ≡ asks) → FitsRequest old.heap.layout (request v n) asked.arena asked.raw → FitsRequest old.heap.layout (malloc_request v n None (decision v n locked)) asked.arena asked.raw
-    came is fits = subst (λ (x : Decision). FitsRequest old.heap.layout (malloc_request v n None x) asked.arena asked.raw) (sym is) fits
-
-    stopped : (x : Decision) → malloc_request v n None x ≡ NoRequest → decision v n locked ≡ x → asked ≡ not_asked → FitsRequest old.heap.layout (malloc_request v n None (decision v n locked)) asked.arena asked.raw
-    stopped x nothing is quiet =
-        subst (λ (a : Asked). FitsRequest old.heap.layout (malloc_request v n None (decision v n locked)) a.arena a.raw) (sym quiet)
-        (subst (λ (y : _). FitsRequest old.heap.layout y grant.NotAsked ask.NotAsked) (sym (ap (malloc_request v n None) is ∙ nothing)) (no_request old.heap.layout))
-
-    by : (got : Got) → IsMade v n locked old new got asked → FitsRequest old.heap.layout (malloc_request v n None (decision v n locked)) asked.arena asked.raw
-    by (gots.Block g) is = came is.0 is.1.0
-    by gots.Null is = elim is [ inl great ↦ stopped too_great refl great.0 great.2 | inr refused ↦ came refused.0 refused.1.1 ]
-    by (gots.Fault found) is = stopped lacks_lock refl is.2 is.3
 
 -- ---- peeks
 

@@ -62,6 +62,7 @@ data_in (Some g) = size_of g.body
 abbrev pub piece_in : Option Guard → Option PieceView
 piece_in slot = option_map piece_of slot
 
+-- the pieces of all slots
 abbrev pub pieces_of : List (Option Guard) → List (Option PieceView)
 pieces_of slots = map piece_in slots
 
@@ -130,5 +131,6 @@ pub record Standing : Type 0 where
   pub layout : Layout
   pub owner : Option ℕ
 
+-- the slots, the domains and the owner, as they are compared with a state
 abbrev pub standing : List (Option Guard) → DomainsView → Option ℕ → Standing
 standing slots d owner = record { slots = blocks_of d.heap.places slots; layout = d.heap.layout; owner = owner }

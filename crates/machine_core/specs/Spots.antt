@@ -44,14 +44,21 @@ pub record IsSpot (m : MachineView) (spot : Spot) : Type 0 where
 abbrev pub live_at : MachineView → TextId → ℕ
 live_at m name = if is_some (find (state_of m).blocks (text_at m.trace.texts name)) then 1 else 0
 
--- each spot is that of a live block, each live block has one, and no two of them meet
+-- the numbers of the spots' names go up, from that number on
+abbrev pub GoUpFrom : ℕ → List Spot → Type 0
+GoUpFrom k [] = Unit {0}
+GoUpFrom k (spot ∷ spots) = (k ≤ spot.name.0) × GoUpFrom (spot.name.0 + 1) spots
+
+-- each spot is that of a live block, each live block has one, no two of them meet, and they stand in the order of their names' numbers
 pub record AreSpots (m : MachineView) (spots : List Spot) : Type 0 where
   pub each : (spot : Spot) → Has spot spots → IsSpot m spot
   pub one : (name : TextId) → name.0 < length m.trace.texts → tally (names name.0) spots ≡ live_at m name
   pub apart : (x : ℕ) → tally (has_address x) spots ≤ 1
+  pub ordered : GoUpFrom 0 spots
 
 -- ---- as they are listed
 
+-- the spot of this block, in the slot with that number
 abbrev pub spot_at : ℕ → Guard → Spot
 spot_at i g = record { name = record { 0 = i }; place = g.place; len = length (piece_of g).bytes }
 

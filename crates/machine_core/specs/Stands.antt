@@ -11,6 +11,7 @@ use Rattle.domain_api.specs.Held.{DomainsView}
 use Rattle.machine_core.specs.Acts.{StandsFor}
 use Rattle.machine_core.specs.Slots.{Standing, standing, IsStore}
 
+-- the history is legal, and the fields stand for the state that it leads to
 pub record Stands (trace : Trace) (entries : List Entry) (now : Standing) (done : List ℕ) (faulted : Bool) : Type 0 where
   pub legal : IsLegal (plain trace).tracks entries
   pub table : IsTable trace.texts
@@ -20,7 +21,7 @@ pub record Stands (trace : Trace) (entries : List Entry) (now : Standing) (done 
   pub done_is : done ≡ (last_state (plain trace).tracks entries).done
   pub fault_is : faulted ≡ (last_state (plain trace).tracks entries).faulted
 
--- the fields stand for the state, and the slots have just the blocks of both heaps
+-- what always holds of a machine: its fields stand for that state, and its slots have just the blocks of both heaps
 pub record IsMachine (trace : Trace) (entries : List Entry) (slots : List (Option Guard)) (d : DomainsView) (owner : Option ℕ) (done : List ℕ) (faulted : Bool) : Type 0 where
   pub stands : Stands trace entries (standing slots d owner) done faulted
   pub store : IsStore slots d

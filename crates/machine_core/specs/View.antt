@@ -24,6 +24,7 @@ pub record MachineView : Type 0 where
   pub raws : List Extent
   pub pieces : List (Option PieceView)
 
+-- the tracks of its trace
 abbrev pub tracks_of : MachineView → List PlainTrack
 tracks_of m = (plain m.trace).tracks
 

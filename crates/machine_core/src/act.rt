@@ -71,7 +71,8 @@ fn refuse<A: ArenaSource, R: RawSource>(
     Ok(Acted::unasked(Reply::Ok))
 }
 
-/// Does an operation of the track. What can fail comes before any change, and asking a source last.
+/// Does an operation of the track. All that can fail comes before any change, and a request to a
+/// source comes last of that.
 pub(crate) fn act<A: ArenaSource, R: RawSource>(
     alloc: Global,
     store: &mut Store,

@@ -126,7 +126,7 @@ impl Machine {
         }
     }
 
-    /// Where the live blocks lie, by the numbers of their names.
+    /// Where the live blocks lie, in the order of the numbers of their names.
     pub fn places(&self) -> Result<List<Spot>, AllocError>
         ensures { IfOk result (AreSpots self.now) }
     {

@@ -72,6 +72,7 @@ pub(crate) struct StoreTotals {
     pub(crate) bytes: u128,
 }
 
+/// How many blocks are in slots, and how many bytes of data they have.
 pub(crate) fn totals_of(slots: &[Option<Guarded>]) -> StoreTotals
     ensures blocks { result.blocks ≡ sum_by live_in slots.now }
     ensures bytes { result.bytes ≡ sum_by data_in slots.now }

@@ -1,6 +1,4 @@
 use Rattle.std.proofs.Common.{◌<◌, length, refl, sym, ap, subst}
-use Rattle.mem_base.specs.declared.history.Ask.TheVariants as ask
-use Rattle.mem_base.specs.declared.history.Grant.TheVariants as grant
 use Rattle.mem_base.specs.declared.trace.Side.TheVariants as sides
 use Rattle.trace_model.specs.Known.{IsKnownAmong}
 use Rattle.domain_api.specs.Held.{DomainsView}

@@ -1,6 +1,4 @@
-use Rattle.std.proofs.Common.{List, sym, ap, ◌∙◌, arith, refl, subst}
-use Rattle.mem_base.specs.declared.history.Ask.{Ask}
-use Rattle.mem_base.specs.declared.history.Grant.{Grant}
+use Rattle.std.proofs.Common.{List, sym, ap, arith, refl, subst}
 use Rattle.mem_base.specs.declared.history.Entry.{Entry}
 use Rattle.mem_base.specs.declared.trace.Side.TheVariants as sides
 use Rattle.event_model.specs.Replies.{plain_reply}

@@ -55,5 +55,5 @@ returns-clause-arenas g c = arenas_gone _ _ _ _ _ _ _ c.loop-slot.invariant.trad
 pub returns-clause-raws : goal.returns-clause-raws
 returns-clause-raws g c =
     let none = none_left c.loop-slot.domains
-        (last_left c.loop-slot.slots.items c.pop.result (loans_of c.loop-slot.domains) (λ lt. c.pop.ensures.variant.1 (subst (λ (n : ℕ). 0 < n) (sym c.loop-slot.slots.ok.0) lt)) c.in_default.is c.loop-slot.invariant.stored.stored) in
+    (last_left c.loop-slot.slots.items c.pop.result (loans_of c.loop-slot.domains) (λ lt. c.pop.ensures.variant.1 (subst (λ (n : ℕ). 0 < n) (sym c.loop-slot.slots.ok.0) lt)) c.in_default.is c.loop-slot.invariant.stored.stored) in
     raws_gone _ _ _ _ _ _ _ c.loop-slot.invariant.traded none.1 c.end.ensures.raws

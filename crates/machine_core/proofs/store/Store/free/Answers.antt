@@ -17,7 +17,7 @@ returns-in-Some-clause-turn g c =
     let i = c.args.name.0 in
     let here = slot_is slots i c.index_mut.result.now c.requires.there c.index_mut.ensures.value ∙ sym c.take.ensures.value ∙ c.in-Some.is in
     let turn = freed_turn c.args.self.now.domains c.free-freed.new.self (g.A.ArenaSource.seen c.free-freed.new.arenas) (g.R.RawSource.seen c.free-freed.new.raws) c.free-freed.ensures.sound c.free-freed.ensures.held
-        slots i c.in-Some.block c.args.letter c.args.locked c.free-freed.result c.requires.stored c.requires.there here c.free-freed.ensures.freed in
+    slots i c.in-Some.block c.args.letter c.args.locked c.free-freed.result c.requires.stored c.requires.there here c.free-freed.ensures.freed in
     let left : c.put_back.new.slots.items ≡ slots_after (set slots i None) i c.free-freed.result =
     c.put_back.ensures.slots ∙ ap (λ (o : Option Guard). slots_after (set slots i o) i c.free-freed.result) c.take.ensures.after in
     rw (left, c.put_back.ensures.answer) turn

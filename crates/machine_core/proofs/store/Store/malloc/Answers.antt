@@ -24,7 +24,7 @@ returns-clause-turn g c =
     let here : get_or slots c.args.name.0 None ≡ c.index.result.now = slot_is slots c.args.name.0 c.index.result.now c.requires.there c.index.ensures in
     let free : get_or slots c.args.name.0 None ≡ None = here ∙ none_where c.index.result.now (sym c.is_some.ensures ∙ c.if-is_some.false) in
     let turn = made_turn c.args.self.now.domains c.malloc.new.self (g.A.ArenaSource.seen c.malloc.new.arenas) (g.R.RawSource.seen c.malloc.new.raws) c.in_ok-got.ensures.sound c.in_ok-got.ensures.held
-        slots c.args.name.0 c.args.letter c.args.size c.args.locked c.in_ok-got.field-0.got c.in_ok-got.field-0.asked c.requires.stored free c.in_ok-got.ensures.made in
+    slots c.args.name.0 c.args.letter c.args.size c.args.locked c.in_ok-got.field-0.got c.in_ok-got.field-0.asked c.requires.stored free c.in_ok-got.ensures.made in
     rw (c.keep-reply.ensures.slots, c.keep-reply.ensures.answer) turn
 
 pub returns-clause-stored : goal.returns-clause-stored
