@@ -2,7 +2,6 @@ ghost use Rattle.std.specs.Prelude.{◌≡◌, ◌⊎◌, ◌++◌, IfOk};
 ghost use Rattle.std.specs.Io.KnownBytes.{Appends, Keeps};
 ghost use Rattle.streams.specs.Faults.{Rose};
 ghost use Rattle.streams.specs.Moves.{WroteFront};
-ghost use Rattle.trace_model.specs.Cause.{cause_word};
 ghost use Rattle.replay_tool.specs.Refusals.{refused_line, IsTelling};
 
 use report_text::push_number;
@@ -31,30 +30,6 @@ pub enum Telling {
     OutOfMemory,
 }
 
-// The name of a cause.
-fn cause_name(cause: TraceCause) -> &'static [u8]
-    ensures { result.now ≡ cause_word cause }
-{
-    match cause {
-        TraceCause::BadEnd => b"BadEnd",
-        TraceCause::BadHeader => b"BadHeader",
-        TraceCause::BadByte => b"BadByte",
-        TraceCause::UnknownWord => b"UnknownWord",
-        TraceCause::Misplaced => b"Misplaced",
-        TraceCause::BadWords => b"BadWords",
-        TraceCause::BadNumber => b"BadNumber",
-        TraceCause::BadHex => b"BadHex",
-        TraceCause::BadName => b"BadName",
-        TraceCause::BadRange => b"BadRange",
-        TraceCause::BadRule => b"BadRule",
-        TraceCause::ForgedLetter => b"ForgedLetter",
-        TraceCause::NoFrame => b"NoFrame",
-        TraceCause::SameTrack => b"SameTrack",
-        TraceCause::NoTrack => b"NoTrack",
-        TraceCause::TooMany => b"TooMany",
-    }
-}
-
 // The line that tells which line of a trace is faulty, and why.
 #[tactic(auto, unfolding(crate::specs::Refusals::refused_line))]
 fn refused_text(alloc: Global, line: u64, cause: TraceCause) -> Result<Vec<u8>, AllocError>
@@ -63,7 +38,7 @@ fn refused_text(alloc: Global, line: u64, cause: TraceCause) -> Result<Vec<u8>, 
     let mut text = Vec::from_slice(alloc, b"pymtrace: line ")?;
     push_number(&mut text, line)?;
     text.extend_from_slice(b": ")?;
-    text.extend_from_slice(cause_name(cause))?;
+    text.extend_from_slice(cause.word().as_bytes())?;
     text.push(b'\n')?;
     Ok(text)
 }
