@@ -1,57 +1,35 @@
 -- What a replay keeps from event to event.
-use Rattle.std.proofs.Common.{◌≡◌, inl, inr, ℕ, ◌+◌, ◌<◌, List, [], ◌∷◌, ◌++◌, length, refl, sym, ap, subst, ◌∙◌, append-nil, arith, rules, slice_get, Option, Some, None, true, Result, Ok, Err, ◌≤◌}
-use Rattle.std.specs.Prelude.{IsSome, OnErr, OnOk}
-use Rattle.std.specs.Option.{option_map}
+use Rattle.std.proofs.Common.{◌≡◌, inl, inr, ℕ, ◌+◌, ◌<◌, List, [], ◌∷◌, ◌++◌, length, refl, sym, ap, subst, ◌∙◌, append-nil, slice_get, Option, Some, None, Result, Ok, Err}
+use Rattle.std.specs.Prelude.{OnErr, OnOk}
 use Rattle.std.specs.Io.KnownBytes.{Appends, Keeps}
-use Rattle.std.proofs.KnownBytes.{Appends-nil, Appends-trans}
-use Rattle.streams.specs.Faults.{Rose}
+use Rattle.std.proofs.KnownBytes.{Appends-trans}
 use Rattle.streams.specs.Moves.{WroteFront}
 use Rattle.mem_base.specs.declared.history.Entry.{Entry}
 use Rattle.mem_base.specs.declared.reply.Step.{Step}
-use Rattle.mem_base.specs.declared.trace.Op.{Op}
 use Rattle.mem_base.specs.declared.trace.Trace.{Trace}
-use Rattle.trace_model.specs.Known.{IsKnownTrace, op_at}
-use Rattle.trace_model.specs.Plain.{Action, PlainTrack, plain, action_of}
-use Rattle.event_model.specs.Events.{action_after, may_do, left_in}
+use Rattle.trace_model.specs.Known.{IsKnownTrace}
+use Rattle.trace_model.specs.Plain.{PlainTrack, plain}
+use Rattle.event_model.specs.Events.{action_after, left_in}
 use Rattle.event_model.specs.History.{opening, last_state, IsLegal}
 use Rattle.event_model.proofs.HistoryLaws.{legal_push}
 use Rattle.event_model.proofs.LeftLaws.{leaves_less}
 use Rattle.report_model.specs.Report.{lines_for, events_text}
 use Rattle.report_model.proofs.ReportLaws.{one_more}
-use Rattle.domain_api.specs.Held.{AreOut}
-use Rattle.sources.proofs.Holders.{traded_nothing, traded_then}
+use Rattle.sources.proofs.Holders.{traded_then}
 use Rattle.machine_core.specs.View.{MachineView, tracks_of, state_of, IsEvent}
-use Rattle.machine_core.proofs.StepLemmas.{action_is}
 use Rattle.replay_tool.specs.declared.events.Halt.{Halt}
 use Rattle.replay_tool.specs.declared.events.Halt.TheVariants.{WriteFault, OutOfMemory}
 use Rattle.report_text.specs.Texts.{step_text}
 use Rattle.replay_tool.specs.Events.{text_from, OneMore, Stopped, TradedBoth, WasCut, RanOut}
 use Rattle.replay_tool.specs.Served.{Served, ServedNearly, Sources}
-use Rattle.replay_tool.proofs.ServedLaws.{served_none, served_more, served_nearly, served_failed}
+use Rattle.replay_tool.proofs.ServedLaws.{served_more, served_nearly, served_failed}
 
 -- what a result that is this error ensures
 pub at_err : {T E : Type 0} (r : Result T E) (e : E) (P : Type 0) → r ≡ Err e → OnErr r P → P
 at_err (Ok x) e P is h = absurd cc
 at_err (Err d) e P is h = h
 
--- a count that rose later rose
-pub rose_later : (before now after : ℕ) → before ≤ now → Rose now after → Rose before after
-rose_later before now after first then = omega (arith, first, then)
-
 -- ---- the text of a step
-
--- an operation that a ready track does next is in the code's trace
-some_op : (trace : Trace) (owner : Option ℕ) (t at : ℕ) → may_do owner t (action_after (plain trace).tracks t at) ≡ true → IsSome (op_at trace.tracks t at)
-some_op trace owner t at ready = by (op_at trace.tracks t at) (subst (λ (o : Option Action). may_do owner t o ≡ true) (action_is trace.texts trace.tracks t at) ready)
-  where
-    by : (o : Option Op) → may_do owner t (option_map (action_of trace.texts) o) ≡ true → IsSome o
-    by None h = absurd cc
-    by (Some op) h = search rules
-
-pub step_has_op : (t : ℕ) (old : MachineView) (new : List Entry) (step : Step) → IsEvent old.trace old.entries new t step → IsSome (op_at old.trace.tracks step.entry.track step.entry.at)
-step_has_op t old new step is =
-    some_op old.trace (state_of old).owner step.entry.track step.entry.at
-    (subst (λ (at : ℕ). may_do (state_of old).owner step.entry.track (action_after (tracks_of old) step.entry.track at) ≡ true) (sym is.next.at) is.next.ready)
 
 -- what is printed of a step is the text of its event
 pub step_text_is : (t : ℕ) (old : MachineView) (new : List Entry) (step : Step) → IsEvent old.trace old.entries new t step → step_text old.trace (length old.entries + 1) step ≡ text_from old step.entry
@@ -67,18 +45,6 @@ pub record Going (first m : MachineView) (before now : Option (List ℕ)) (seen 
   pub written : Appends before now (events_text (tracks_of m) m.entries)
   pub served : Served (tracks_of m) m.entries seen seen_now
   pub traded : TradedBoth first m seen seen_now
-
-pub going_at_start : (m : MachineView) (before : Option (List ℕ)) (seen : Sources) → m.entries ≡ [] → AreOut m.arenas m.raws seen.arenas seen.raw → Going m m before before seen seen
-going_at_start m before seen none held = record {
-  same = refl;
-  legal = subst (IsLegal (tracks_of m)) (sym none) tt;
-  written = subst (λ (es : List Entry). Appends before before (events_text (tracks_of m) es)) (sym none) (Appends-nil before);
-  served = subst (λ (es : List Entry). Served (tracks_of m) es seen seen) (sym none) (served_none (tracks_of m) seen);
-  traded = record {
-    arenas = traded_nothing m.arenas m.arenas seen.arenas seen.arenas held.arenas_out refl refl refl refl;
-    raws = traded_nothing m.raws m.raws seen.raw seen.raw held.raws_out refl refl refl refl;
-  };
-}
 
 -- regions were traded, and then again
 traded_on : (a b c : MachineView) (x y z : Sources) → TradedBoth a b x y → TradedBoth b c y z → TradedBoth a c x z

@@ -137,8 +137,10 @@ fn run_words<I: Source, A: ArenaSource, R: RawSource, O: Sink, E: Sink>(
 /// Does what the words ask: for now `replay` alone, which reads a trace from the input, replays it
 /// over memory of the sources, and writes the report of it.
 ///
-/// Before the replay the sources are told how much there may be: 256 arenas and 268,435,456 raw
-/// bytes. When `run` returns, all that they gave has gone back. The requests that they refused are
+/// Nothing may be out of either source when `run` is called, and no address may lie in both of their
+/// windows. Before the replay the sources are told how much there may be: 256 arenas and 268,435,456
+/// raw bytes. When `run` returns, all that they gave has gone back. A small block for which an arena
+/// was refused is asked of the raw source in its place, and a request that the raw source refused is
 /// answered with null in the report.
 ///
 /// The status is 0 where the trace was replayed without a fault and 1 where its last event is one;
