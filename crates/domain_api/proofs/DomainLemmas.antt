@@ -145,10 +145,10 @@ regions_within grant.Refused seen old new same all = subst (λ (l : List Extent)
 regions_within (grant.Granted pools) seen old new more all = within_more more.0 old new seen.window all more.1.3 more.1.0
 
 -- and after a block came back
-pub regions_left : (old new : HeapView) (w : Window) → RegionsBack old new → AllWithin old.regions w → AllWithin new.regions w
-regions_left old new w back all = elim back [
+pub regions_left : (p : ℕ) (old new : HeapView) (w : Window) → RegionsBack p old new → AllWithin old.regions w → AllWithin new.regions w
+regions_left p old new w back all = elim back [
   | inl same ↦ subst (λ (l : List Extent). AllWithin l w) (sym same.1) all
-  | inr gone ↦ within_fewer gone.1.0 old.regions new.regions w all gone.1.1
+  | inr gone ↦ within_fewer gone.1.0 old.regions new.regions w all gone.1.1.0
 ]
 
 -- ---- whose a block is

@@ -1,5 +1,5 @@
 -- What the calls of the domains do.
-use Rattle.std.specs.Prelude.{◌≡◌, ◌≢◌, ◌⊎◌, ℕ, ◌%◌, Bool, true, false, length, Some, None}
+use Rattle.std.specs.Prelude.{◌≡◌, ◌≢◌, ◌⊎◌, ℕ, ◌%◌, Bool, true, false, [], length, Some, None}
 use Rattle.mem_base.specs.declared.trace.Letter.{Letter}
 use Rattle.mem_base.specs.declared.history.Ask.TheVariants as ask
 use Rattle.mem_base.specs.declared.history.Grant.TheVariants as grant
@@ -41,9 +41,10 @@ pub record InHeap (n : ℕ) (block : Guard) (asked : Asked) (old new : DomainsVi
   pub serves : Serves (class_of (need n)) asked.arena (Some piece) old.heap new.heap
   pub raws : new.raws ≡ old.raws
 
--- the block is a region of the raw source
+-- the block is all of a region of the raw source
 pub record InRaw (block : Guard) (asked : Asked) (old new : DomainsView) : Type 0 where
   pub raw : asked.raw ≡ ask.Granted
+  pub all : block.rest ≡ []
   pub heap : new.heap ≡ old.heap
   pub lent : Inserted (guard_extent block) old.raws new.raws
 

@@ -24,14 +24,14 @@ use Rattle.heap_view.proofs.Counts.{mended_and_gone}
 use Rattle.heap_view.proofs.Members.{pool_is_listed}
 use Rattle.arena_set.specs.declared.pool_id.PoolId.{PoolId}
 use Rattle.arena_set.specs.declared.started.Started.{Started}
-use Rattle.arena_set.specs.Arena.{ArenaView, after_give_pool, started_times}
+use Rattle.arena_set.specs.Arena.{ArenaView, pool_offset, after_give_pool, started_times}
 use Rattle.arena_set.specs.Set.{SetView, pool_line, pools_of, regions_of, loans_of, usable_of, dry_of, IsSet}
 use Rattle.arena_set.specs.Calls.{CanMend, CanGive, Mends, PoolsLeft, RegionsLeft, kept_after}
 use Rattle.arena_set.specs.Rule.{PoolBack}
-use Rattle.py_heap.specs.Heap.{InPool, RegionsBack}
+use Rattle.py_heap.specs.Heap.{InPool, PoolInRegion, RegionsBack}
 use Rattle.py_heap.specs.Kept.{ClassView, State, no_pools, spot, spots_of, line_of, lines_of, sites_of, tables_of, heap_of, class_at, full_in, SameSums, IsKeptState}
 use Rattle.py_heap.specs.Frees.{CanComeBack, ComesBack, TakesBack, SitesAfter, RegionsLess, went}
-use Rattle.py_heap.proofs.Arenas.{line_at, started_there, at_once, arena_at, site_there, sites_cover, sites_same, sites_fewer}
+use Rattle.py_heap.proofs.Arenas.{line_at, started_there, at_once, arena_at, pool_ground, site_there, sites_cover, sites_same, sites_fewer}
 use Rattle.py_heap.proofs.Lending.{pool_inside, not_full_in, lists_at}
 use Rattle.py_heap.proofs.Freeing.{MendOf, After, after, mend_of, has_same}
 
@@ -226,9 +226,17 @@ module _ (old : State) (k : IsKeptState old) (piece : PieceView) (id : PoolId) (
       full = λ d. let t = tally_inserted (full_in d) pool (lines_of new.set.arenas) (lines_of old.set.arenas) gone in let z = not_full_in d pool half in let o = k.full d in let f = full_is d in omega arith;
     }
 
-    back_by : (r : Option RegionView) → RegionsLeft r (regions_of set1.arenas) (regions_of new.set.arenas) → new.back ≡ old.back + went r → RegionsBack (heap_of old) (heap_of new)
-    back_by None left is = inl (omega arith, left ∙ regions)
-    back_by (Some r) left is = inr (is, (region_extent r, subst (λ l. Removed (region_extent r) l (regions_of new.set.arenas)) regions left))
+    -- the pool lies in its arena
+    ground : PoolInRegion pool.place (region_extent b.gives.a.region)
+    ground =
+        let g = pool_ground set1 id (then_is).a sound (then_is).started.at (pool_inside set1 id (then_is).a (then_is).s (then_is).started) in
+        let arena = at_once set1 id.arena (then_is).a b.gives.a (then_is).started.at b.gives.at in
+        let place = ap (λ (y : PoolLine). y.place) (then_is).is in
+        subst (λ p. PoolInRegion p (region_extent b.gives.a.region)) (sym place) (subst (λ (z : ArenaView). PoolInRegion ((then_is).a.region.base + pool_offset (then_is).a.region.base id.pool) (region_extent z.region)) arena g)
+
+    back_by : (r : Option RegionView) → RegionsLeft r (regions_of set1.arenas) (regions_of new.set.arenas) → new.back ≡ old.back + went r → ((q : RegionView) → r ≡ Some q → q ≡ b.gives.a.region) → RegionsBack pool.place (heap_of old) (heap_of new)
+    back_by None left is mine = inl (omega arith, left ∙ regions)
+    back_by (Some r) left is mine = inr (is, (region_extent r, (subst (λ l. Removed (region_extent r) l (regions_of new.set.arenas)) regions left, subst (λ q. PoolInRegion pool.place (region_extent q)) (sym (mine r refl)) ground)))
 
     pub returned_back : InPool (piece_extent piece) pool.place → TakesBack piece region (heap_of old) (heap_of new)
     returned_back lies = record {
@@ -240,7 +248,7 @@ module _ (old : State) (k : IsKeptState old) (piece : PieceView) (id : PoolId) (
         layout = (unplaced).layout;
         is = inl (gone_place (tables_of old) (tables_of new) pool k.kept.orderly.numbers gone);
         others = (unplaced).others;
-        regions = back_by region b.gives.regions b.back_is;
+        regions = back_by region b.gives.regions b.back_is (λ q e. (b.gives.region q e).0);
         back = subst (λ l. Removed (piece_extent piece) (loans_of old.set.arenas) l) (sym b.loans) loans;
       };
       regions = less_regions region (regions_of old.set.arenas) (regions_of set1.arenas) (regions_of new.set.arenas) regions b.gives.regions (λ r e. (b.gives.region r e).1);

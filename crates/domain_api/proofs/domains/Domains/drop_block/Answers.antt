@@ -59,7 +59,7 @@ returns-then-owns-clause-held g c =
     let raws = g.R.RawSource.seen c.args.raws.now in
     let held = subst (λ (d : DomainsView). AreHeld d arenas raws) (sym c.self.view_is) c.requires.held in
     held_heap c.self.inside.heap c.free.new.self c.self.inside.raw arenas then raws held c.free.ensures.traded
-    (regions_left c.self.inside.heap c.free.new.self arenas.window c.free.ensures.freed.regions held.arenas_in)
+    (regions_left c.free.ensures.freed.begins c.self.inside.heap c.free.new.self arenas.window c.free.ensures.freed.regions held.arenas_in)
 
 pub returns-else-owns-clause-traded : goal.returns-else-owns-clause-traded
 returns-else-owns-clause-traded g c =
