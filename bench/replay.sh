@@ -31,7 +31,7 @@ timed() {
 import os, resource, subprocess, sys, time
 with open(sys.argv[1]) as trace, open(sys.argv[2], "w") as out:
     start = time.monotonic()
-    status = subprocess.call(["./pymtrace", "replay"], stdin=trace, stdout=out)
+    status = subprocess.call(["crates/pymtrace/out/pymtrace", "replay"], stdin=trace, stdout=out)
     took = time.monotonic() - start
 assert status == 0, status
 print(int(took * 1e6), resource.getrusage(resource.RUSAGE_CHILDREN).ru_maxrss)

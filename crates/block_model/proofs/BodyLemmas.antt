@@ -5,7 +5,7 @@ use Rattle.std.proofs.lemmas.Grind.{common_steps}
 use Rattle.mem_base.specs.Letter.{letter_byte}
 use Rattle.mem_base.specs.declared.trace.Letter.{Letter}
 use Rattle.mem_base.specs.declared.trace.Letter.TheVariants.{Raw, Mem, Obj}
-use Rattle.block_model.specs.Block.{body_of, Body, head_of, place_of, reaches, peeked, poked, tail_of, pad, finding, finding_in}
+use Rattle.block_model.specs.Block.{body_of, Body, head_of, index_of, reaches, peeked, poked, tail_of, pad, finding, finding_in}
 use Rattle.std.proofs.lemmas.Bool.{leb-true}
 
 pub head_of-body_of : (v : Letter) (bytes : List ℕ) → head_of (body_of v bytes) ≡ letter_byte v ∷ replicate 7 pad
@@ -21,7 +21,7 @@ finding_in-body_of v bytes =
     rw (head_of-body_of v bytes, tail_of-body_of v bytes)
     (elim v as (λ w. finding w (letter_byte w ∷ replicate 7 pad) (replicate 8 pad) ≡ None) [ Raw ↦ refl | Mem ↦ refl | Obj ↦ refl ])
 
--- what was written at a place stands there
+-- what was written at an index stands there
 pub written_there : (body bytes rest : List ℕ) (at : ℕ) → at ≤ length body → take (length bytes) (drop at (take at body ++ bytes ++ rest)) ≡ bytes
 written_there body bytes rest at within =
     let front : length (take at body) ≡ at = grind (arith, common_steps) in
@@ -29,5 +29,5 @@ written_there body bytes rest at within =
 
 pub peeked-poked : (body : Body) (off : ℤ) (bytes : List ℕ) → reaches body off (length bytes) ≡ true → peeked (poked body off bytes) off (length bytes) ≡ bytes
 peeked-poked body off bytes reach =
-    let within : place_of off + length bytes ≤ length body = leb-true _ _ reach in
-    written_there body bytes _ (place_of off) (omega arith)
+    let within : index_of off + length bytes ≤ length body = leb-true _ _ reach in
+    written_there body bytes _ (index_of off) (omega arith)

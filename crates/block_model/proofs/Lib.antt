@@ -1,1 +1,1 @@
-pub mod BodyLemmas
+mod BodyLemmas

@@ -1,5 +1,5 @@
 -- Blocks with their pads, and the damage that a check of one finds.
-use Rattle.std.specs.Prelude.{ℕ, ◌+◌, ◌-◌, ◌<◌, ◌^◌, ℤ, pos, negsuc, Bool, not, ◌==◌, nat_le, if◌then◌else◌, List, ◌∷◌, ◌++◌, length, take, drop, replicate, slice_index, position, Option, Some, None}
+use Rattle.std.specs.Prelude.{ℕ, ◌+◌, ◌-◌, ℤ, pos, negsuc, Bool, not, ◌==◌, nat_le, if◌then◌else◌, List, ◌∷◌, ◌++◌, length, take, drop, replicate, slice_index, position, Option, Some, None}
 use Rattle.std.specs.Int.{to_be_bytes, w64}
 use Rattle.mem_base.specs.Letter.{letter_byte}
 use Rattle.mem_base.specs.declared.trace.Letter.{Letter}
@@ -7,15 +7,15 @@ use Rattle.mem_base.specs.declared.reply.Fault.{Fault}
 use Rattle.mem_base.specs.declared.reply.Fault.TheVariants.{BadId, BadLead, BadTail}
 use Rattle.mem_base.specs.declared.reply.BlockReport.{BlockReport}
 
--- FD: what pads hold
+-- FD: what pads hold (PYMEM_FORBIDDENBYTE)
 abbrev pub pad : ℕ
 pad = 253
 
--- CD: what new data holds
+-- CD: what new data holds (PYMEM_CLEANBYTE)
 abbrev pub new_byte : ℕ
 new_byte = 205
 
--- DD: what a block holds once it is freed
+-- DD: what a block holds once it is freed (PYMEM_DEADBYTE)
 abbrev pub dead_byte : ℕ
 dead_byte = 221
 
@@ -48,9 +48,9 @@ fresh v n b = body_of v (replicate n b)
 abbrev pub image_of : Body → List ℕ
 image_of body = to_be_bytes w64 (size_of body) ++ body
 
--- ---- what a check finds
+-- ---- what a check finds, as _PyMem_DebugCheckAddress does
 
--- the place of the first byte that is no pad
+-- the index of the first byte that is no pad
 abbrev pub damage_in : List ℕ → Option ℕ
 damage_in bytes = position (λ b. not (b == pad)) bytes
 
@@ -79,24 +79,19 @@ report_of body = record { size = size_of body; head = head_of body; tail = tail_
 
 -- ---- what pokes and peeks reach
 
--- an offset from the data's start that lies in the body
-abbrev pub IsOffset : ℤ → Type 0
-IsOffset (pos n) = n < 2 ^ 63
-IsOffset (negsuc n) = n < 8
-
--- where in the body an offset from the data's start lies
-abbrev pub place_of : ℤ → ℕ
-place_of (pos n) = n + 8
-place_of (negsuc n) = 7 - n
+-- the index in the body of the byte at an offset from the data's start
+abbrev pub index_of : ℤ → ℕ
+index_of (pos n) = n + 8
+index_of (negsuc n) = 7 - n
 
 -- whether so many bytes from an offset on lie in the body
 abbrev pub reaches : Body → ℤ → ℕ → Bool
-reaches body offset count = nat_le (place_of offset + count) (length body)
+reaches body offset count = nat_le (index_of offset + count) (length body)
 
 -- so many bytes of the body from an offset on
 abbrev pub peeked : Body → ℤ → ℕ → List ℕ
-peeked body offset count = take count (drop (place_of offset) body)
+peeked body offset count = take count (drop (index_of offset) body)
 
 -- the body with these bytes from an offset on
 abbrev pub poked : Body → ℤ → List ℕ → Body
-poked body offset bytes = take (place_of offset) body ++ bytes ++ drop (place_of offset + length bytes) body
+poked body offset bytes = take (index_of offset) body ++ bytes ++ drop (index_of offset + length bytes) body

@@ -1,4 +1,5 @@
-//! A block as the debug hooks lay it out. With n bytes of data at p:
+//! A block as the debug hooks of obmalloc.c lay it out (`_PyMem_DebugRawAlloc`). With n bytes of data
+//! at p:
 //!
 //! | Bytes | Hold |
 //! |---|---|
@@ -8,7 +9,12 @@
 //! | p to p+n-1 | the data |
 //! | p+n to p+n+7 | FD |
 //!
-//! The size word is written once and cannot be reached; all that follows it is the block's body.
+//! New data is filled with CD, and a block that is freed with DD, so that reads of bytes that nobody
+//! wrote show. A check (`_PyMem_DebugCheckAddress`) reads the letter, then the seven bytes FD before
+//! the data, then the eight behind it, and reports the first that is wrong. Unlike there, no serial
+//! number follows the block, and the size word is written once and cannot be reached; all that follows
+//! it is the block's body, and pokes and peeks reach no other byte.
+//!
 //! The definitions in `specs/` say this in the words that the crates above cite.
 #![tactic(auto)]
 

@@ -8,7 +8,7 @@ use Rattle.std.proofs.Math.Seq.{take-append_seam}
 use Rattle.mem_base.specs.declared.trace.Letter.{Letter}
 use Rattle.block_model.specs.Block.{body_of, fresh, image_of}
 use Rattle.raw_region.specs.Region.{PieceView, with_bytes}
-use Rattle.debug_guard.specs.Guard.{Guard, piece_of, size_word}
+use Rattle.debug_guard.specs.Guard.{guard_at, piece_of, size_word}
 
 pub length-size_word : (n : ℕ) → length (size_word n) ≡ 8
 unfolding size_word
@@ -24,8 +24,8 @@ unfolding size_word
 image_of-is body n long = let e : length body - 16 ≡ n = omega arith in ap (λ k. to_be_bytes w64 k ++ body) e
 
 -- all of a piece is written over
-refilled_whole : (old new : List ℕ) → length new ≡ length old → refill (length old) old new ≡ new
-refilled_whole old new same = rw (← same) (take-append_seam new (drop (length new) old))
+refill_whole : (old new : List ℕ) → length new ≡ length old → refill (length old) old new ≡ new
+refill_whole old new same = rw (← same) (take-append_seam new (drop (length new) old))
 
 -- what is behind the body, counted from the body's start
 rest_behind : (bytes : List ℕ) (n : ℕ) → drop (n + 16) (drop 8 bytes) ≡ drop (n + 24) bytes
@@ -40,24 +40,20 @@ parts_join bytes n fits word =
     ∙ ap (λ l. size_word n ++ (body ++ l)) (sym (rest_behind bytes n)) ∙ ap (λ l. size_word n ++ l) (take-append-drop (n + 16) behind)
     ∙ ap (λ l. l ++ behind) (sym word) ∙ take-append-drop 8 bytes
 
--- what a guarded piece is seen as
-abbrev pub view_at : PieceView → ℕ → Guard
-view_at p n = record { place = p.place; maker = p.maker; body = take (n + 16) (drop 8 p.bytes); rest = drop (n + 24) p.bytes }
-
 -- the piece of that view
-pub piece_of-view_at : (p : PieceView) (n : ℕ) → n + 24 ≤ length p.bytes → take 8 p.bytes ≡ size_word n → piece_of (view_at p n) ≡ p
-piece_of-view_at p n fits word = λ i. record { place = p.place; maker = p.maker; bytes = parts_join p.bytes n fits word i }
+pub piece_of-guard_at : (p : PieceView) (n : ℕ) → n + 24 ≤ length p.bytes → take 8 p.bytes ≡ size_word n → piece_of (guard_at p n) ≡ p
+piece_of-guard_at p n fits word = λ i. record { place = p.place; maker = p.maker; bytes = parts_join p.bytes n fits word i }
 
 -- a piece once a word and a body are written at its start, before the rest
-pub record IsDressed (old new word body rest : List ℕ) (n : ℕ) : Type 0 where
+pub record Dresses (old new word body rest : List ℕ) (n : ℕ) : Type 0 where
   pub word_is : take 8 (refill (length old) old new) ≡ word
   pub body_is : take (n + 16) (drop 8 (refill (length old) old new)) ≡ body
   pub rest_is : drop (n + 24) (refill (length old) old new) ≡ rest
   pub room_is : length (refill (length old) old new) ≡ length old
 
-pub dressed : (old new word body rest : List ℕ) (n : ℕ) → length word ≡ 8 → length body ≡ n + 16 → length new ≡ length old → new ≡ word ++ body ++ rest → IsDressed old new word body rest n
-dressed old new word body rest n w b same is =
-    let whole = refilled_whole old new same in
+pub dress_parts : (old new word body rest : List ℕ) (n : ℕ) → length word ≡ 8 → length body ≡ n + 16 → length new ≡ length old → new ≡ word ++ body ++ rest → Dresses old new word body rest n
+dress_parts old new word body rest n w b same is =
+    let whole = refill_whole old new same in
     let e : refill (length old) old new ≡ word ++ (body ++ rest) = whole ∙ is ∙ append_assoc word body rest in
     record {
       word_is = ap (take 8) e ∙ take_at word (body ++ rest) 8 w;
@@ -67,11 +63,11 @@ dressed old new word body rest n w b same is =
     }
 
 -- a body is written over, and all else stays
-pub written : (p : PieceView) (n : ℕ) (body : List ℕ) → n + 24 ≤ length p.bytes → length body ≡ n + 16
-    → view_at (with_bytes p (take 8 p.bytes ++ (body ++ drop (n + 16) (drop 8 p.bytes)))) n ≡ record (view_at p n) { body = body }
-written p n body fits long =
+pub write_body-view : (p : PieceView) (n : ℕ) (body : List ℕ) → n + 24 ≤ length p.bytes → length body ≡ n + 16
+    → guard_at (with_bytes p (take 8 p.bytes ++ (body ++ drop (n + 16) (drop 8 p.bytes)))) n ≡ record (guard_at p n) { body = body }
+write_body-view p n body fits long =
     let word = take 8 p.bytes in let rest = drop (n + 16) (drop 8 p.bytes) in let new = word ++ (body ++ rest) in
     let word_long : length word ≡ 8 = grind (arith, common_steps) in
     let same : length new ≡ length p.bytes = grind (arith, common_steps) in
-    let d = dressed p.bytes new word body rest n word_long long same (sym (append_assoc word body rest)) in
+    let d = dress_parts p.bytes new word body rest n word_long long same (sym (append_assoc word body rest)) in
     λ i. record { place = p.place; maker = p.maker; body = d.body_is i; rest = (d.rest_is ∙ rest_behind p.bytes n) i }

@@ -1,1 +1,1 @@
-pub mod GuardLemmas
+mod GuardLemmas

@@ -34,9 +34,9 @@ fn finding_of(body: &[u8], letter: Letter) -> Option<Fault>
     }
 }
 
-// The place of the first byte that is no pad.
+// The index of the first byte that is no pad.
 fn damage_of(bytes: &[u8]) -> Option<usize>
-    ensures place { result ≡ damage_in bytes.now }
+    ensures index { result ≡ damage_in bytes.now }
     ensures within { IfSome result (λ k. k < length bytes.now) }
 {
     bytes.iter().position(|b| *b != PAD)

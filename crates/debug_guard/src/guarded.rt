@@ -1,19 +1,19 @@
-ghost use Rattle.std.specs.Prelude.{◌≡◌, ◌+◌, ◌-◌, ◌<◌, ◌≤◌, ◌++◌, ◌^◌, length, take, drop, replicate, if◌then◌else◌};
-ghost use Rattle.debug_guard.specs.Guard.{size_word, piece_of, guard_extent};
-ghost use Rattle.block_model.specs.Block.{fresh, new_byte, dead_byte, size_of, image_of};
+ghost use Rattle.std.specs.Prelude.{◌≡◌, ◌+◌, ◌-◌, ◌<◌, ◌≤◌, ◌++◌, ◌^◌, length, drop, replicate};
+ghost use Rattle.debug_guard.specs.Guard.{fill_of, guard_extent, piece_of, size_word, splice};
+ghost use Rattle.block_model.specs.Block.{fresh, dead_byte, size_of, image_of};
 ghost use Rattle.extents.specs.Extent.{piece_extent};
 
 use mem_base::Letter;
 use raw_region::Piece;
 use std::marker::Model;
 
-/// What a byte of a pad holds.
+/// What a byte of a pad holds: `PYMEM_FORBIDDENBYTE`.
 pub(crate) const PAD: u8 = 0xFD;
 
-/// What a byte of new data holds.
+/// What a byte of new data holds: `PYMEM_CLEANBYTE`.
 const NEW: u8 = 0xCD;
 
-/// What a byte of a freed block holds.
+/// What a byte of a freed block holds: `PYMEM_DEADBYTE`.
 const DEAD: u8 = 0xDD;
 
 /// A block inside a piece. It cannot be dropped: `kill` gives its piece back.
@@ -23,31 +23,31 @@ pub struct Guarded {
 }
 
 impl Model for Guarded {
-    ghost use Rattle.std.specs.Prelude.{◌≡◌, ◌+◌, ◌≤◌, ◌<◌, ◌^◌, take, drop, length};
-    ghost use Rattle.debug_guard.specs.Guard.{Guard, size_word};
+    ghost use Rattle.debug_guard.specs.Guard.{Guard, IsDressed, guard_at};
 
     ghost Value = { Guard };
 
-    ghost view = { λ g. record { place = g.piece.place; maker = g.piece.maker; body = take (g.size + 16) (drop 8 g.piece.bytes); rest = drop (g.size + 24) g.piece.bytes } };
+    ghost view = { λ g. guard_at g.piece g.size };
 
-    ghost invariant = { λ g. (take 8 g.piece.bytes ≡ size_word g.size) × (g.size + 24 ≤ length g.piece.bytes) × (length g.piece.bytes < 2 ^ 63) };
+    ghost invariant = { λ g. IsDressed g.piece g.size };
 }
 
 /// Writes a new block for a call with this letter: its size word, its letter and pads, and n bytes
 /// of data, which hold 00 where `zero` says so and else CD.
 pub fn dress(mut piece: Piece, letter: Letter, n: u64, zero: bool) -> Guarded
     requires { n + 24 ≤ length piece.bytes }
-    ensures body { result.body ≡ fresh letter n (if zero then 0 else new_byte) }
-    ensures kept { (result.place ≡ piece.place) × (result.maker ≡ piece.maker) × (result.rest ≡ drop (n + 24) piece.bytes) }
+    ensures body { result.body ≡ fresh letter n (fill_of zero) }
+    ensures same { (result.place ≡ piece.place) × (result.maker ≡ piece.maker) }
+    ensures rest { result.rest ≡ drop (n + 24) piece.bytes }
     ensures extent { guard_extent result ≡ piece_extent piece }
 {
-    write_block(piece.bytes_mut(), letter, n, first_byte(zero));
+    write_block(piece.bytes_mut(), letter, n, fill_byte(zero));
     Guarded { piece, size: n }
 }
 
 // What a byte of new data holds.
-fn first_byte(zero: bool) -> u8
-    ensures { result ≡ (if zero then 0 else new_byte) }
+fn fill_byte(zero: bool) -> u8
+    ensures { result ≡ fill_of zero }
 {
     if zero { 0 } else { NEW }
 }
@@ -86,7 +86,8 @@ fn write_body(body: &mut [u8], letter: Letter, new: u8)
 
 /// Fills the piece with DD and gives it back.
 pub fn kill(g: Guarded) -> Piece
-    ensures dead { (result.place ≡ g.place) × (result.maker ≡ g.maker) × (result.bytes ≡ replicate (length (piece_of g).bytes) dead_byte) }
+    ensures same { (result.place ≡ g.place) × (result.maker ≡ g.maker) }
+    ensures dead { result.bytes ≡ replicate (length (piece_of g).bytes) dead_byte }
     ensures extent { piece_extent result ≡ guard_extent g }
 {
     let Guarded { mut piece, size: _ } = g;
@@ -122,10 +123,10 @@ impl Guarded {
         &bytes[8..self.size as usize + 24]
     }
 
-    /// Writes over the body from this place on.
+    /// Writes over the body from this index on.
     pub(crate) fn write(&mut self, at: usize, bytes: &[u8])
         requires { at + length bytes.now ≤ length self.old.body }
-        ensures { self.new ≡ record self.old { body = take at self.old.body ++ bytes.now ++ drop (at + length bytes.now) self.old.body } }
+        ensures { self.new ≡ record self.old { body = splice self.old.body at bytes.now } }
     {
         let size = self.size as usize;
         let (_, rest) = self.piece.bytes_mut().split_at_mut(8);
@@ -136,7 +137,7 @@ impl Guarded {
 // Writes these bytes over a part of the body.
 fn write_at(body: &mut [u8], at: usize, bytes: &[u8])
     requires { at + length bytes.now ≤ length body.old }
-    ensures { body.new ≡ take at body.old ++ bytes.now ++ drop (at + length bytes.now) body.old }
+    ensures { body.new ≡ splice body.old at bytes.now }
 {
     body[at..at + bytes.len()].copy_from_slice(bytes);
 }

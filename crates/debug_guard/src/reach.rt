@@ -1,7 +1,8 @@
 ghost use Rattle.std.specs.Prelude.{◌≡◌, IsTrue, false, Some, None, if◌then◌else◌, length};
 ghost use Rattle.std.specs.Option.{option_copied};
 ghost use Rattle.debug_guard.specs.Guard.{guard_extent};
-ghost use Rattle.block_model.specs.Block.{IsOffset, place_of, reaches, peeked, poked};
+ghost use Rattle.block_model.specs.Block.{index_of, reaches, peeked, poked};
+ghost use Rattle.mem_base.specs.Offset.{IsOffset};
 
 use crate::Guarded;
 
@@ -16,7 +17,7 @@ pub fn poke(g: &mut Guarded, off: i64, bytes: &[u8]) -> bool
     ensures size { length g.new.body ≡ length g.old.body }
     ensures extent { guard_extent g.new ≡ guard_extent g.old }
 {
-    let at = place(off);
+    let at = index_of(off);
     let end = g.body().len();
     if at <= end && bytes.len() <= end - at {
         g.write(at, bytes);
@@ -30,9 +31,10 @@ pub fn poke(g: &mut Guarded, off: i64, bytes: &[u8]) -> bool
 /// start. `None` where they do not all lie in the body.
 pub fn peek(g: &Guarded, off: i64, len: u64) -> Option<&[u8]>
     requires { IsOffset off }
-    ensures { option_copied result ≡ (if reaches g.now.body off len then Some (peeked g.now.body off len) else None) }
+    ensures { option_copied result ≡
+        (if reaches g.now.body off len then Some (peeked g.now.body off len) else None) }
 {
-    let at = place(off);
+    let at = index_of(off);
     let body = g.body();
     if at <= body.len() && len <= (body.len() - at) as u64 {
         Some(&body[at..at + len as usize])
@@ -41,10 +43,10 @@ pub fn peek(g: &Guarded, off: i64, len: u64) -> Option<&[u8]>
     }
 }
 
-// Where in the body an offset from the data's start lies.
-fn place(off: i64) -> usize
+// The index in the body of the byte at an offset from the data's start.
+fn index_of(off: i64) -> usize
     requires { IsOffset off }
-    ensures { result ≡ place_of off }
+    ensures { result ≡ index_of off }
 {
     if off < 0 {
         8 - off.unsigned_abs() as usize

@@ -11,7 +11,8 @@ use std::test::Fail;
 // A region of so many bytes at the address 4096, and all of it as a piece.
 fn lend(alloc: Global, len: u64) -> Result<(Region, Piece), AllocError>
     requires { (1 ≤ len) × (len ≤ 4096) }
-    ensures { IfOk result (λ r. (piece_extent r.1 ≡ region_extent r.0) × AreLent r.0.cells 0 (length r.0.cells) × (length r.1.bytes ≡ len)) }
+    ensures { IfOk result (λ r. (piece_extent r.1 ≡ region_extent r.0)
+        × AreLent r.0.cells 0 (length r.0.cells) × (length r.1.bytes ≡ len)) }
 {
     let mut region = Region::new(alloc, 4096, len)?;
     let piece = region.carve(0, len);

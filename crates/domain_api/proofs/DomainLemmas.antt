@@ -1,5 +1,5 @@
 -- Blocks of two heaps: which of them a block is of, and what stays of what is held.
-use Rattle.std.proofs.Common.{◌≡◌, ◌≢◌, ℕ, zero, suc, ◌<◌, ◌≤◌, Bool, true, false, List, [], ◌∷◌, length, Option, Some, None, refl, sym, ap, subst, ◌∙◌, arith, inl, inr, ◌⊎◌}
+use Rattle.std.proofs.Common.{◌≡◌, ◌≢◌, ℕ, zero, suc, ◌+◌, ◌<◌, ◌≤◌, Bool, true, false, List, [], ◌∷◌, length, Option, Some, None, Result, Ok, Err, OnErr, refl, sym, ap, subst, ◌∙◌, arith, inl, inr, ◌⊎◌}
 use Rattle.std.specs.Prelude.{◌&&◌, ◌||◌, not, nat_le}
 use Rattle.std.proofs.lemmas.Bool.{le-leb, leb-true}
 use Rattle.mem_base.specs.declared.history.Ask.{Ask}
@@ -14,8 +14,10 @@ use Rattle.extents.specs.Extent.{Extent, Window, AreDisjoint, LiesIn, covers, pi
 use Rattle.extents.specs.Sums.{tally, Has, Inserted, Removed}
 use Rattle.extents.proofs.Addresses.{covers_in, covers_most, lies_spans}
 use Rattle.extents.proofs.Lists.{has_kept, has_more, has_new, length_inserted, tally_has, tally_zero}
-use Rattle.sources.specs.Holder.{Traded}
+use Rattle.sources.specs.Holder.{Answered, AskedAtMostOnce, AskedUnrefused, Traded}
 use Rattle.sources.specs.Source.{ArenaShape, SourceView}
+use Rattle.sources.proofs.CallerLemmas.{traded_nothing, unrefused_nothing}
+use Rattle.request_model.specs.Counts.{arena_asks, arena_refusals}
 use Rattle.py_heap.specs.Heap.{HeapView, RegionsAfter, RegionsBack}
 use Rattle.raw_heap.specs.Heap.{IsGot}
 use Rattle.raw_region.specs.Region.{PieceView}
@@ -23,7 +25,7 @@ use Rattle.mem_base.specs.declared.trace.Letter.{Letter}
 use Rattle.debug_guard.specs.Guard.{Guard, guard_extent}
 use Rattle.domain_api.specs.declared.answers.Asked.{Asked}
 use Rattle.domain_api.specs.Domains.{IsGivenUp, IsLent}
-use Rattle.domain_api.specs.Held.{AllWithin, AreHeld, AreSound, DomainsView, IsLoan}
+use Rattle.domain_api.specs.Held.{AllWithin, AreAskedOnce, AreHeld, AreSound, AreTraded, DomainsView, IsLoan}
 
 -- ---- which heap
 
@@ -65,27 +67,77 @@ pub got_within : (n : ℕ) (o : Option PieceView) (old new : List Extent) (seen 
 got_within n None old new seen same all = subst (λ (l : List Extent). AllWithin l seen.window) (sym same) all
 got_within n (Some p) old new seen block all = within_more (piece_extent p) old new seen.window all block.inside block.added
 
--- the raw heap traded
-pub held_raw : (heap : HeapView) (old new : List Extent) (arenas : SourceView ArenaShape) (raws raws_then : SourceView ℕ) → AreHeld (record { heap = heap; raws = old }) arenas raws → Traded old new raws raws_then
-    → AllWithin new raws.window → AreHeld (record { heap = heap; raws = new }) arenas raws_then
-held_raw heap old new arenas raws raws_then held traded within = record {
-  arenas_out = held.arenas_out;
-  arenas_in = held.arenas_in;
-  raws_out = traded.held;
-  raws_in = subst (AllWithin new) (sym traded.window) within;
-  windows = subst (AreDisjoint arenas.window) (sym traded.window) held.windows;
-}
+-- one of the two heaps traded with its source
+module _ (h : HeapView) (rs : List Extent) (d : DomainsView) (is : record { heap = h; raws = rs } ≡ d)
+    (arenas : SourceView ArenaShape) (raws : SourceView ℕ) (held : AreHeld d arenas raws) where
+  pub own_held : AreHeld (record { heap = h; raws = rs }) arenas raws
+  own_held = subst (λ (x : DomainsView). AreHeld x arenas raws) (sym is) held
 
--- the heap of small blocks traded
-pub held_heap : (old new : HeapView) (raw : List Extent) (arenas arenas_then : SourceView ArenaShape) (raws : SourceView ℕ) → AreHeld (record { heap = old; raws = raw }) arenas raws → Traded old.regions new.regions arenas arenas_then
-    → AllWithin new.regions arenas.window → AreHeld (record { heap = new; raws = raw }) arenas_then raws
-held_heap old new raw arenas arenas_then raws held traded within = record {
-  arenas_out = traded.held;
-  arenas_in = subst (AllWithin new.regions) (sym traded.window) within;
-  raws_out = held.raws_out;
-  raws_in = held.raws_in;
-  windows = subst (λ (w : Window). AreDisjoint w raws.window) (sym traded.window) held.windows;
-}
+  -- the heap of small blocks
+  module _ (new : HeapView) (then : SourceView ArenaShape) (traded : Traded h.regions new.regions arenas then) where
+    pub small_traded : AreTraded d (record { heap = new; raws = rs }) arenas then raws raws
+    small_traded = subst (λ (x : DomainsView). AreTraded x (record { heap = new; raws = rs }) arenas then raws raws) is
+        (record { arena = traded; raw = traded_nothing rs rs raws raws own_held.raws_out refl refl refl refl })
+
+    pub small_held : AllWithin new.regions arenas.window → AreHeld (record { heap = new; raws = rs }) then raws
+    small_held within = record {
+      arenas_out = traded.held;
+      arenas_in = subst (AllWithin new.regions) (sym traded.window) within;
+      raws_out = own_held.raws_out;
+      raws_in = own_held.raws_in;
+      windows = subst (λ (w : Window). AreDisjoint w raws.window) (sym traded.window) own_held.windows;
+    }
+
+  -- the raw heap
+  module _ (new : List Extent) (then : SourceView ℕ) (traded : Traded rs new raws then) where
+    pub raw_traded : AreTraded d (record { heap = h; raws = new }) arenas arenas raws then
+    raw_traded = subst (λ (x : DomainsView). AreTraded x (record { heap = h; raws = new }) arenas arenas raws then) is
+        (record { arena = traded_nothing h.regions h.regions arenas arenas own_held.arenas_out refl refl refl refl; raw = traded })
+
+    pub raw_held : AllWithin new raws.window → AreHeld (record { heap = h; raws = new }) arenas then
+    raw_held within = record {
+      arenas_out = own_held.arenas_out;
+      arenas_in = own_held.arenas_in;
+      raws_out = traded.held;
+      raws_in = subst (AllWithin new) (sym traded.window) within;
+      windows = subst (AreDisjoint arenas.window) (sym traded.window) own_held.windows;
+    }
+
+-- ---- what was asked where there was no memory
+
+-- what an error leaves, of two things that it leaves
+on_err_both : {X E P Q S : Type 0} (r : Result X E) → (P → Q → S) → OnErr r P → OnErr r Q → OnErr r S
+on_err_both (Ok x) f p q = tt
+on_err_both (Err e) f p q = f p q
+
+few_refusals : (g : Grant) → (arena_refusals g ≤ arena_asks g) × (arena_asks g ≤ 1)
+few_refusals grant.NotAsked = (omega arith, omega arith)
+few_refusals grant.Refused = (omega arith, omega arith)
+few_refusals (grant.Granted pools) = (omega arith, omega arith)
+
+-- who was not asked gave no answer
+pub answered_nothing : (arenas : SourceView ArenaShape) → Answered 0 0 arenas arenas
+answered_nothing arenas = record { asked = omega arith; refused = omega arith; heeded = λ (never : 0 ≡ 1) listed. absurd (omega (arith, never)) }
+
+module _ (arenas then : SourceView ArenaShape) (raws : SourceView ℕ) where
+  -- the heap had none
+  pub heap_had_none : {X E : Type 0} (r : Result X E) → AskedUnrefused arenas then → OnErr r (AreAskedOnce arenas then raws raws)
+  heap_had_none (Ok x) asked = tt
+  heap_had_none (Err e) asked = record {
+    arena = record { asks = asked.asks; refusals = 0; few = (omega arith, asked.few); answered = asked.answered; plan = asked.plan };
+    raw = unrefused_nothing raws raws (record { asked = refl; refused = refl; plan = refl });
+    passed = omega arith;
+  }
+
+  -- the raw heap had none, after the arena source gave this answer
+  pub raw_had_none : {X E : Type 0} (g : Grant) (mid : SourceView ArenaShape) (raws_then : SourceView ℕ) (r : Result X E)
+      → Answered (arena_asks g) (arena_refusals g) arenas mid → mid.plan ≡ arenas.plan → then ≡ mid
+      → OnErr r (AskedUnrefused raws raws_then) → OnErr r (raws_then.asked ≡ raws.asked + 1) → OnErr r (AreAskedOnce arenas then raws raws_then)
+  raw_had_none g mid raws_then r answered plan same = on_err_both r (λ (asked : AskedUnrefused raws raws_then) (one : raws_then.asked ≡ raws.asked + 1). record {
+    arena = subst (AskedAtMostOnce arenas) (sym same) (record { asks = arena_asks g; refusals = arena_refusals g; few = few_refusals g; answered = answered; plan = plan });
+    raw = asked;
+    passed = omega (arith, few_refusals g, asked.answered.asked);
+  })
 
 -- ---- which answers fit
 
@@ -162,8 +214,8 @@ is_raw_block d e sound loan some other = elim loan [ inl small ↦ absurd (other
 -- ---- a block of new domains
 
 -- what was lent is a loan
-pub lent_is_loan : (v : Letter) (n : ℕ) (b : Guard) (asked : Asked) (old new : DomainsView) → IsLent v n b asked old new → IsLoan (guard_extent b) new
-lent_is_loan v n b asked old new lent = elim lent.lies [
+pub lent_is_loan : (v : Letter) (n fill : ℕ) (b : Guard) (asked : Asked) (old new : DomainsView) → IsLent v n fill b asked old new → IsLoan (guard_extent b) new
+lent_is_loan v n fill b asked old new lent = elim lent.lies [
   | inl small ↦ inl (subst (λ (x : Extent). Has x new.heap.loans) small.there (has_new (piece_extent small.piece) old.heap.loans new.heap.loans small.serves.got.1.lent))
   | inr raw ↦ inr (has_new (guard_extent b) old.raws new.raws raw.lent)
 ]
@@ -173,20 +225,20 @@ none_of [] none = refl
 none_of (x ∷ xs) none = absurd (omega (arith, none))
 
 -- and once it is given up, nothing is lent
-pub all_given_up : (v : Letter) (n : ℕ) (b : Guard) (asked : Asked) (old new last : DomainsView) → IsLent v n b asked old new → IsGivenUp b new last → old.heap.loans ≡ [] → old.raws ≡ [] → (last.heap.loans ≡ []) × (last.raws ≡ [])
-all_given_up v n b asked old new last lent gone small_before raw_before = elim lent.lies [
+pub all_given_up : (v : Letter) (n fill : ℕ) (b : Guard) (asked : Asked) (old new last : DomainsView) → IsLent v n fill b asked old new → IsGivenUp b new last → old.heap.loans ≡ [] → old.raws ≡ [] → (last.heap.loans ≡ []) × (last.raws ≡ [])
+all_given_up v n fill b asked old new last lent gone small_before raw_before = elim lent.lies [
   | inl small ↦
       let one = length_inserted (piece_extent small.piece) old.heap.loans new.heap.loans small.serves.got.1.lent in
       let none_raw : length new.raws ≡ 0 = ap length (small.raws ∙ raw_before) in
       elim gone [
-        | inl back ↦ (none_of last.heap.loans (omega (arith, one, ap length small_before, length_inserted (piece_extent back.0) last.heap.loans new.heap.loans back.2.back)), back.3 ∙ small.raws ∙ raw_before)
-        | inr back ↦ absurd (omega (arith, none_raw, length_inserted (guard_extent b) last.raws new.raws back.1))
+        | inl back ↦ (none_of last.heap.loans (omega (arith, one, ap length small_before, length_inserted (piece_extent back.piece) last.heap.loans new.heap.loans back.freed.back)), back.raws ∙ small.raws ∙ raw_before)
+        | inr back ↦ absurd (omega (arith, none_raw, length_inserted (guard_extent b) last.raws new.raws back.back))
       ]
   | inr raw ↦
       let one = length_inserted (guard_extent b) old.raws new.raws raw.lent in
       let none_small : length new.heap.loans ≡ 0 = ap length (ap (λ (h : HeapView). h.loans) raw.heap ∙ small_before) in
       elim gone [
-        | inl back ↦ absurd (omega (arith, none_small, length_inserted (piece_extent back.0) last.heap.loans new.heap.loans back.2.back))
-        | inr back ↦ (ap (λ (h : HeapView). h.loans) (back.0 ∙ raw.heap) ∙ small_before, none_of last.raws (omega (arith, one, ap length raw_before, length_inserted (guard_extent b) last.raws new.raws back.1)))
+        | inl back ↦ absurd (omega (arith, none_small, length_inserted (piece_extent back.piece) last.heap.loans new.heap.loans back.freed.back))
+        | inr back ↦ (ap (λ (h : HeapView). h.loans) (back.heap ∙ raw.heap) ∙ small_before, none_of last.raws (omega (arith, one, ap length raw_before, length_inserted (guard_extent b) last.raws new.raws back.back)))
       ]
 ]

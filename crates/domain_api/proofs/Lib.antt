@@ -1,1 +1,1 @@
-pub mod DomainLemmas
+mod DomainLemmas

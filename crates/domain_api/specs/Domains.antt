@@ -1,19 +1,18 @@
 -- What the calls of the domains do.
-use Rattle.std.specs.Prelude.{◌≡◌, ◌≢◌, ◌⊎◌, ℕ, ◌%◌, Bool, true, false, [], length, Some, None}
+use Rattle.std.specs.Prelude.{◌≡◌, ◌⊎◌, ℕ, ◌%◌, Bool, [], length, replicate, Some, None}
 use Rattle.mem_base.specs.declared.trace.Letter.{Letter}
 use Rattle.mem_base.specs.declared.history.Ask.TheVariants as ask
 use Rattle.mem_base.specs.declared.history.Grant.TheVariants as grant
-use Rattle.mem_base.specs.declared.reply.Fault.TheVariants.{Unlocked}
 use Rattle.mem_base.specs.declared.reply.View.{View}
-use Rattle.block_model.specs.Block.{fresh, new_byte, finding_in}
+use Rattle.block_model.specs.Block.{dead_byte, fresh, finding_in}
 use Rattle.layout_model.specs.Asks.{FitsRequest}
 use Rattle.layout_model.specs.View.{shape_of}
 use Rattle.layout_model.specs.Sizes.{class_of, need}
-use Rattle.event_model.specs.Effects.{Decision, too_great, lacks_lock, asks, decision, is_unlocked, request}
+use Rattle.request_model.specs.Decision.{Decision, too_great, faults, asks, call_fault, decision, request}
 use Rattle.raw_region.specs.Region.{PieceView}
 use Rattle.extents.specs.Extent.{piece_extent}
 use Rattle.extents.specs.Sums.{Inserted, Removed}
-use Rattle.debug_guard.specs.Guard.{Guard, guard_extent}
+use Rattle.debug_guard.specs.Guard.{Guard, guard_extent, piece_of}
 use Rattle.py_heap.specs.Heap.{Serves, IsFreed as IsFreedOfHeap}
 use Rattle.domain_api.specs.Held.{DomainsView}
 use Rattle.domain_api.specs.declared.answers.Asked.{Asked}
@@ -24,10 +23,11 @@ use Rattle.domain_api.specs.declared.answers.Freed.TheVariants as frees
 use Rattle.domain_api.specs.declared.decide.Decision.{Decision as Chosen}
 use Rattle.domain_api.specs.declared.decide.Decision.TheVariants as chosen
 
-abbrev pub decision_of : Chosen → Decision
-decision_of chosen.TooGreat = too_great
-decision_of chosen.LacksLock = lacks_lock
-decision_of chosen.Asks = asks
+-- the decision that a value of the code stands for
+abbrev pub plain_decision : Chosen → Decision
+plain_decision chosen.TooGreat = too_great
+plain_decision (chosen.Faults found) = faults found
+plain_decision chosen.Asks = asks
 
 -- no source was asked
 abbrev pub not_asked : Asked
@@ -48,42 +48,65 @@ pub record InRaw (block : Guard) (asked : Asked) (old new : DomainsView) : Type 
   pub heap : new.heap ≡ old.heap
   pub lent : Inserted (guard_extent block) old.raws new.raws
 
--- a new block of n bytes was lent
-pub record IsLent (v : Letter) (n : ℕ) (block : Guard) (asked : Asked) (old new : DomainsView) : Type 0 where
-  pub body : block.body ≡ fresh v n new_byte
+-- a new block of n bytes, each of them `fill`, was lent
+pub record IsLent (v : Letter) (n fill : ℕ) (block : Guard) (asked : Asked) (old new : DomainsView)
+    : Type 0 where
+  pub body : block.body ≡ fresh v n fill
   pub aligned : block.place % 16 ≡ 0
   pub lies : InHeap n block asked old new ⊎ InRaw block asked old new
 
--- what a request got of the raw source, by its answer
-abbrev pub IsTakenRaw : Letter → ℕ → DomainsView → DomainsView → Got → Asked → Type 0
-IsTakenRaw v n old new (gots.Block block) asked = IsLent v n block asked old new × (asked.raw ≡ ask.Granted)
-IsTakenRaw v n old new gots.Null asked = (new ≡ old) × (asked.raw ≡ ask.Refused)
-IsTakenRaw v n old new (gots.Fault found) asked = ⊥
+-- what a request for n bytes of `fill` got of the raw source, by its answer
+abbrev pub IsTakenRaw : Letter → ℕ → ℕ → DomainsView → DomainsView → Got → Asked → Type 0
+IsTakenRaw v n fill old new (gots.Block block) asked =
+    IsLent v n fill block asked old new × (asked.raw ≡ ask.Granted)
+IsTakenRaw v n fill old new gots.Null asked = (new ≡ old) × (asked.raw ≡ ask.Refused)
+IsTakenRaw v n fill old new (gots.Fault found) asked = ⊥
 
--- what a request for n bytes that came so far got, where the sources gave these answers
-abbrev pub IsTaken : Letter → ℕ → DomainsView → DomainsView → Got → Asked → Type 0
-IsTaken v n old new (gots.Block block) asked = FitsRequest old.heap.layout (request v n) asked.arena asked.raw × IsLent v n block asked old new
-IsTaken v n old new gots.Null asked = (new ≡ old) × FitsRequest old.heap.layout (request v n) asked.arena asked.raw × (asked.raw ≡ ask.Refused)
-IsTaken v n old new (gots.Fault found) asked = ⊥
+-- what a request for n bytes of `fill` that may ask the sources got, where they gave these answers
+abbrev pub IsTaken : Letter → ℕ → ℕ → DomainsView → DomainsView → Got → Asked → Type 0
+IsTaken v n fill old new (gots.Block block) asked =
+    FitsRequest old.heap.layout (request v n) asked.arena asked.raw × IsLent v n fill block asked old new
+IsTaken v n fill old new gots.Null asked =
+    (new ≡ old) × FitsRequest old.heap.layout (request v n) asked.arena asked.raw × (asked.raw ≡ ask.Refused)
+IsTaken v n fill old new (gots.Fault found) asked = ⊥
 
--- what a request for n bytes got, where the sources gave these answers
-abbrev pub IsMade : Letter → ℕ → Bool → DomainsView → DomainsView → Got → Asked → Type 0
-IsMade v n locked old new (gots.Block block) asked = (decision v n locked ≡ asks) × IsTaken v n old new (gots.Block block) asked
-IsMade v n locked old new gots.Null asked =
-    ((decision v n locked ≡ too_great) × (new ≡ old) × (asked ≡ not_asked)) ⊎ ((decision v n locked ≡ asks) × IsTaken v n old new gots.Null asked)
-IsMade v n locked old new (gots.Fault found) asked = (new ≡ old) × (found ≡ Unlocked) × (decision v n locked ≡ lacks_lock) × (asked ≡ not_asked)
+-- nothing was asked and nothing has changed
+abbrev pub IsIdle : DomainsView → DomainsView → Asked → Type 0
+IsIdle old new asked = (new ≡ old) × (asked ≡ not_asked)
+
+-- what a request for a new block of n bytes of `fill` got, where the sources gave these answers
+abbrev pub IsMade : Letter → ℕ → ℕ → Bool → DomainsView → DomainsView → Got → Asked → Type 0
+IsMade v n fill locked old new (gots.Block block) asked =
+    (decision v n locked None ≡ asks) × IsTaken v n fill old new (gots.Block block) asked
+IsMade v n fill locked old new gots.Null asked =
+    ((decision v n locked None ≡ too_great) × IsIdle old new asked)
+    ⊎ ((decision v n locked None ≡ asks) × IsTaken v n fill old new gots.Null asked)
+IsMade v n fill locked old new (gots.Fault found) asked =
+    (decision v n locked None ≡ faults found) × IsIdle old new asked
+
+-- the block's piece, filled with DD, comes home to the heap
+pub record LeavesToHeap (block : Guard) (old new : DomainsView) : Type 0 where
+  pub piece : PieceView
+  pub there : piece_extent piece ≡ guard_extent block
+  pub dead : piece.bytes ≡ replicate (length (piece_of block).bytes) dead_byte
+  pub freed : IsFreedOfHeap piece old.heap new.heap
+  pub raws : new.raws ≡ old.raws
+
+-- the block's region goes back to the raw source
+pub record LeavesToRaw (block : Guard) (old new : DomainsView) : Type 0 where
+  pub heap : new.heap ≡ old.heap
+  pub back : Removed (guard_extent block) old.raws new.raws
 
 -- the block goes from the heap that it is of
 abbrev pub IsGivenUp : Guard → DomainsView → DomainsView → Type 0
-IsGivenUp block old new =
-    ((piece : PieceView) × (piece_extent piece ≡ guard_extent block) × IsFreedOfHeap piece old.heap new.heap × (new.raws ≡ old.raws))
-    ⊎ ((new.heap ≡ old.heap) × Removed (guard_extent block) old.raws new.raws)
+IsGivenUp block old new = LeavesToHeap block old new ⊎ LeavesToRaw block old new
 
 -- what the free of a block came to
 abbrev pub IsFreed : Letter → Bool → Guard → DomainsView → DomainsView → Freed → Type 0
-IsFreed v locked block old new frees.Done = (is_unlocked v locked ≡ false) × (finding_in v block.body ≡ None) × IsGivenUp block old new
-IsFreed v locked block old new (frees.Fault kept found) = (kept ≡ block) × (new ≡ old)
-    × (((is_unlocked v locked ≡ true) × (found ≡ Unlocked)) ⊎ ((is_unlocked v locked ≡ false) × (finding_in v block.body ≡ Some found) × (found ≢ Unlocked)))
+IsFreed v locked block old new frees.Done =
+    (call_fault v locked (finding_in v block.body) ≡ None) × IsGivenUp block old new
+IsFreed v locked block old new (frees.Fault kept found) =
+    (call_fault v locked (finding_in v block.body) ≡ Some found) × (kept ≡ block) × (new ≡ old)
 
 -- the heap's shape, and how many blocks are raw regions
 abbrev pub view_of_both : DomainsView → View

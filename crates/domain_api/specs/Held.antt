@@ -1,11 +1,11 @@
 -- What the domains hold of the sources.
-use Rattle.std.specs.Prelude.{◌≡◌, ◌⊎◌, ℕ, ◌+◌, ◌^◌, ◌<◌, List, length}
+use Rattle.std.specs.Prelude.{◌≡◌, ◌⊎◌, ℕ, ◌+◌, ◌^◌, ◌<◌, ◌≤◌, List, length}
 use Rattle.mem_base.specs.declared.reply.Counts.{Counts}
-use Rattle.event_model.specs.Requests.{arena_asks, arena_refusals, raw_asks, raw_refusals}
+use Rattle.request_model.specs.Counts.{arena_asks, arena_refusals, raw_asks, raw_refusals}
 use Rattle.extents.specs.Extent.{Extent, Window, AreApart, AreDisjoint, LiesIn}
 use Rattle.extents.specs.Sums.{AllIn, Has}
 use Rattle.sources.specs.Source.{ArenaShape, SourceView}
-use Rattle.sources.specs.Holder.{Answered, AskedNothing, AskedOnce, Traded}
+use Rattle.sources.specs.Holder.{Answered, AskedAtMostOnce, AskedNothing, AskedUnrefused, Traded}
 use Rattle.py_heap.specs.Heap.{HeapView, IsHeap}
 use Rattle.domain_api.specs.declared.answers.Asked.{Asked}
 
@@ -19,7 +19,8 @@ abbrev pub AllWithin : List Extent → Window → Type 0
 AllWithin es w = (e : Extent) → Has e es → LiesIn e w
 
 -- these arenas and these raw regions are out at the sources, in their windows, which do not meet
-pub record AreOut (held_arenas held_raws : List Extent) (arenas : SourceView ArenaShape) (raws : SourceView ℕ) : Type 0 where
+pub record AreOut (held_arenas held_raws : List Extent) (arenas : SourceView ArenaShape) (raws : SourceView ℕ)
+    : Type 0 where
   pub arenas_out : AllIn held_arenas arenas.out
   pub arenas_in : AllWithin held_arenas arenas.window
   pub raws_out : AllIn held_raws raws.out
@@ -45,27 +46,34 @@ pub record FewTaken (d : DomainsView) : Type 0 where
   pub pools : length d.heap.layout.full < 2 ^ 63
 
 -- what the sources were asked in a call, and answered
-pub record AreAnswered (asked : Asked) (arenas arenas_then : SourceView ArenaShape) (raws raws_then : SourceView ℕ) : Type 0 where
+pub record AreAnswered (asked : Asked)
+    (arenas arenas_then : SourceView ArenaShape) (raws raws_then : SourceView ℕ) : Type 0 where
   pub arena : Answered (arena_asks asked.arena) (arena_refusals asked.arena) arenas arenas_then
   pub raw : Answered (raw_asks asked.raw) (raw_refusals asked.raw) raws raws_then
 
 -- the plans of the sources are as before
-pub record SamePlans (arenas arenas_then : SourceView ArenaShape) (raws raws_then : SourceView ℕ) : Type 0 where
+pub record SamePlans
+    (arenas arenas_then : SourceView ArenaShape) (raws raws_then : SourceView ℕ) : Type 0 where
   pub arena : arenas_then.plan ≡ arenas.plan
   pub raw : raws_then.plan ≡ raws.plan
 
 -- the domains traded regions with the sources, and nothing else came or went
-pub record AreTraded (old new : DomainsView) (arenas arenas_then : SourceView ArenaShape) (raws raws_then : SourceView ℕ) : Type 0 where
+pub record AreTraded (old new : DomainsView)
+    (arenas arenas_then : SourceView ArenaShape) (raws raws_then : SourceView ℕ) : Type 0 where
   pub arena : Traded old.heap.regions new.heap.regions arenas arenas_then
   pub raw : Traded old.raws new.raws raws raws_then
 
--- each source was asked at most once
-pub record AreAskedOnce (arenas arenas_then : SourceView ArenaShape) (raws raws_then : SourceView ℕ) : Type 0 where
-  pub arena : AskedOnce arenas arenas_then
-  pub raw : AskedOnce raws raws_then
+-- Where there was no memory: each source was asked at most once, the raw source did not refuse, and it was asked
+-- where the arena source refused.
+pub record AreAskedOnce
+    (arenas arenas_then : SourceView ArenaShape) (raws raws_then : SourceView ℕ) : Type 0 where
+  pub arena : AskedAtMostOnce arenas arenas_then
+  pub raw : AskedUnrefused raws raws_then
+  pub passed : arena.refusals ≤ raw.asks
 
 -- no source was asked
-pub record AreAskedNothing (arenas arenas_then : SourceView ArenaShape) (raws raws_then : SourceView ℕ) : Type 0 where
+pub record AreAskedNothing
+    (arenas arenas_then : SourceView ArenaShape) (raws raws_then : SourceView ℕ) : Type 0 where
   pub arena : AskedNothing arenas arenas_then
   pub raw : AskedNothing raws raws_then
 

@@ -1,15 +1,37 @@
-ghost use Rattle.std.specs.Prelude.{◌≡◌, ◌≢◌, ◌+◌, ◌^◌, ◌<◌, ◌≤◌, [], Some, None, if◌then◌else◌, IfOk, OnErr};
-ghost use Rattle.event_model.specs.Effects.{asks, decision, is_unlocked};
+//! The blocks of all three domains, over the two heaps that they lie in.
+//!
+//! A block of the raw domain is a region of its own. One of the mem and object domains lies in a pool
+//! where it has at most 512 bytes with the hooks', and else, or where its arena is refused, is a
+//! region too, as in `_PyObject_Malloc` of `Objects/obmalloc.c`, which falls back on
+//! `PyMem_RawMalloc`:
+//!
+//! ```text
+//! letter   n + 24 bytes        block
+//! r        any                 region
+//! m, o     at most 512         place in a pool ---- arena refused ---> region
+//! m, o     more                region
+//! ```
+//!
+//! Which of the two a block is its address tells when it is given up: a block of a pool lies in an
+//! arena, and no region of the raw source does (`address_in_range`). Always, no two of the heap's
+//! blocks, nor of the raw regions, share an address. It differs in that a refusal and want of memory
+//! are two answers: a source that refuses makes the call null, and only a call that was not refused
+//! is an error.
+
+ghost use Rattle.std.specs.Prelude.{◌≡◌, ◌≢◌, ◌+◌, ◌^◌, ◌<◌, ◌≤◌, [], None, IfOk, OnErr};
+ghost use Rattle.block_model.specs.Block.{new_byte};
 ghost use Rattle.mem_base.specs.declared.trace.Letter.TheVariants as letters;
-ghost use Rattle.debug_guard.specs.Guard.{guard_extent};
-ghost use Rattle.event_model.specs.Requests.{raw_asks, raw_refusals};
-ghost use Rattle.sources.specs.Holder.{Answered, AskedOnce, Traded};
+ghost use Rattle.debug_guard.specs.Guard.{fill_of, guard_extent};
+ghost use Rattle.request_model.specs.Counts.{raw_asks, raw_refusals};
+ghost use Rattle.request_model.specs.Decision.{asks, call_fault, decision};
+ghost use Rattle.sources.specs.Holder.{Answered, AskedUnrefused, Traded};
 ghost use Rattle.py_heap.specs.Heap.{empty_heap};
 ghost use Rattle.domain_api.specs.Domains.{IsFreed, IsGivenUp, IsMade, IsTaken, IsTakenRaw, view_of_both};
-ghost use Rattle.domain_api.specs.Held.{AreAnswered, AreAskedNothing, AreAskedOnce, AreHeld, AreSound, AreTraded, CanAsk, HasCounts, IsLoan, SamePlans};
+ghost use Rattle.domain_api.specs.Held.{AreAnswered, AreAskedNothing, AreAskedOnce, AreHeld, AreSound};
+ghost use Rattle.domain_api.specs.Held.{AreTraded, CanAsk, HasCounts, IsLoan, SamePlans};
 
 use crate::answers::{Asked, Freed, Got, Made};
-use crate::decide::{Decision, decide, is_unlocked_call};
+use crate::decide::{Decision, decide, fault_of_call};
 use debug_guard::{Guarded, check, dress, kill, size};
 use mem_base::limits::HOOK_BYTES;
 use mem_base::{Ask, Counts, Fault, Grant, Letter, View};
@@ -41,6 +63,15 @@ const NOT_ASKED: Asked = Asked {
     raw: Ask::NotAsked,
 };
 
+// A new block that may be asked for: its domain, how many bytes of data it has, and whether they are
+// to be 00.
+#[derive(Clone, Copy)]
+struct Wanted {
+    letter: Letter,
+    n: u64,
+    zero: bool,
+}
+
 impl Domains {
     /// Domains without blocks. The error is that there was no memory.
     pub fn new(alloc: Global) -> Result<Domains, AllocError>
@@ -57,34 +88,42 @@ impl Domains {
         }
     }
 
-    // A block of n bytes in a region of its own, after the arena source gave this answer.
+    // The block in a region of its own, after the arena source gave this answer.
     fn take_raw<A: ArenaSource, R: RawSource>(
         &mut self,
-        letter: Letter,
-        n: u64,
+        wanted: Wanted,
         arena: Grant,
         arenas: &mut A,
         raws: &mut R,
     ) -> Result<Made, AllocError>
-        requires fits { n + 24 < 2 ^ 63 }
+        requires fits { wanted.n + 24 < 2 ^ 63 }
         requires count { (R.seen raws.old).asked < 2 ^ 63 }
         requires held { AreHeld self.old (A.seen arenas.old) (R.seen raws.old) }
-        ensures made { IfOk result (λ made. IsTakenRaw letter n self.old self.new made.got made.asked) }
-        ensures arena { IfOk result (λ made. made.asked.arena ≡ arena) }
-        ensures raw { IfOk result (λ made. Answered (raw_asks made.asked.raw) (raw_refusals made.asked.raw) (R.seen raws.old) (R.seen raws.new)) }
-        ensures plan { (R.seen raws.new).plan ≡ (R.seen raws.old).plan }
+
+        // What block there is.
+        ensures made { IfOk result (λ made.
+            IsTakenRaw wanted.letter wanted.n (fill_of wanted.zero) self.old self.new made.got made.asked) }
         ensures failed { OnErr result (self.new ≡ self.old) }
-        ensures once { OnErr result (AskedOnce (R.seen raws.old) (R.seen raws.new)) }
+
+        // What the raw source was asked.
+        ensures arena { IfOk result (λ made. made.asked.arena ≡ arena) }
+        ensures raw { IfOk result (λ made. Answered (raw_asks made.asked.raw) (raw_refusals made.asked.raw)
+            (R.seen raws.old) (R.seen raws.new)) }
+        ensures plan { (R.seen raws.new).plan ≡ (R.seen raws.old).plan }
+        ensures unrefused { OnErr result (AskedUnrefused (R.seen raws.old) (R.seen raws.new)) }
+        ensures once { OnErr result ((R.seen raws.new).asked ≡ (R.seen raws.old).asked + 1) }
+
+        // What the domains hold.
         ensures traded { Traded self.old.raws self.new.raws (R.seen raws.old) (R.seen raws.new) }
         ensures heap { self.new.heap ≡ self.old.heap }
         ensures held { AreHeld self.new (A.seen arenas.new) (R.seen raws.new) }
         ensures arenas { A.seen arenas.new ≡ A.seen arenas.old }
         ensures sound { AreSound self.new.heap self.new.raws }
     {
-        let RawGot { piece } = self.raw.alloc(n + HOOK_BYTES, raws)?;
+        let RawGot { piece } = self.raw.alloc(wanted.n + HOOK_BYTES, raws)?;
         Ok(match piece {
             Some(piece) => Made {
-                got: Got::Block(dress(piece, letter, n, false)),
+                got: Got::Block(dress(piece, wanted.letter, wanted.n, wanted.zero)),
                 asked: Asked {
                     arena,
                     raw: Ask::Granted,
@@ -100,38 +139,42 @@ impl Domains {
         })
     }
 
-    // A block of n bytes in a pool, or in a region of its own where it is too large for one or its
-    // arena was refused.
+    // The block in a pool, or in a region of its own where it is too large for one or its arena was
+    // refused.
     fn take_pooled<A: ArenaSource, R: RawSource>(
         &mut self,
-        letter: Letter,
-        n: u64,
+        wanted: Wanted,
         arenas: &mut A,
         raws: &mut R,
     ) -> Result<Made, AllocError>
-        requires pooled { letter ≢ letters.Raw }
-        requires fits { n + 24 < 2 ^ 63 }
+        requires pooled { wanted.letter ≢ letters.Raw }
+        requires fits { wanted.n + 24 < 2 ^ 63 }
         requires ask { CanAsk self.old (A.seen arenas.old) (R.seen raws.old) }
         requires held { AreHeld self.old (A.seen arenas.old) (R.seen raws.old) }
-        ensures taken { IfOk result (λ made. IsTaken letter n self.old self.new made.got made.asked) }
-        ensures answered { IfOk result (λ made. AreAnswered made.asked (A.seen arenas.old) (A.seen arenas.new) (R.seen raws.old) (R.seen raws.new)) }
-        ensures plans { SamePlans (A.seen arenas.old) (A.seen arenas.new) (R.seen raws.old) (R.seen raws.new) }
+        ensures taken { IfOk result (λ made.
+            IsTaken wanted.letter wanted.n (fill_of wanted.zero) self.old self.new made.got made.asked) }
         ensures failed { OnErr result (self.new ≡ self.old) }
-        ensures once { OnErr result (AreAskedOnce (A.seen arenas.old) (A.seen arenas.new) (R.seen raws.old) (R.seen raws.new)) }
-        ensures traded { AreTraded self.old self.new (A.seen arenas.old) (A.seen arenas.new) (R.seen raws.old) (R.seen raws.new) }
+        ensures answered { IfOk result (λ made. AreAnswered made.asked
+            (A.seen arenas.old) (A.seen arenas.new) (R.seen raws.old) (R.seen raws.new)) }
+        ensures plans { SamePlans
+            (A.seen arenas.old) (A.seen arenas.new) (R.seen raws.old) (R.seen raws.new) }
+        ensures once { OnErr result (AreAskedOnce
+            (A.seen arenas.old) (A.seen arenas.new) (R.seen raws.old) (R.seen raws.new)) }
+        ensures traded { AreTraded self.old self.new
+            (A.seen arenas.old) (A.seen arenas.new) (R.seen raws.old) (R.seen raws.new) }
         ensures held { AreHeld self.new (A.seen arenas.new) (R.seen raws.new) }
         ensures sound { AreSound self.new.heap self.new.raws }
     {
-        let HeapGot { piece, grant } = self.heap.alloc(n + HOOK_BYTES, arenas)?;
+        let HeapGot { piece, grant } = self.heap.alloc(wanted.n + HOOK_BYTES, arenas)?;
         match piece {
             Some(piece) => Ok(Made {
-                got: Got::Block(dress(piece, letter, n, false)),
+                got: Got::Block(dress(piece, wanted.letter, wanted.n, wanted.zero)),
                 asked: Asked {
                     arena: grant,
                     raw: Ask::NotAsked,
                 },
             }),
-            None => self.take_raw(letter, n, grant, arenas, raws),
+            None => self.take_raw(wanted, grant, arenas, raws),
         }
     }
 
@@ -139,7 +182,8 @@ impl Domains {
     /// pool where the domain is not raw and there are at most 512, and no arena was refused; else in a
     /// region of its own. It is null where the size is too great or the raw source refused, and a fault
     /// where the domain needs the interpreter lock and the call does not have it. The error is that
-    /// there was no memory; then nothing has changed, and all that a source granted has gone back.
+    /// there was no memory, and never that the raw source refused; then nothing has changed, and all
+    /// that a source granted has gone back.
     pub fn malloc<A: ArenaSource, R: RawSource>(
         &mut self,
         letter: Letter,
@@ -150,41 +194,55 @@ impl Domains {
     ) -> Result<Made, AllocError>
         requires ask { CanAsk self.old (A.seen arenas.old) (R.seen raws.old) }
         requires held { AreHeld self.old (A.seen arenas.old) (R.seen raws.old) }
-        ensures made { IfOk result (λ made. IsMade letter n locked self.old self.new made.got made.asked) }
-        ensures answered { IfOk result (λ made. AreAnswered made.asked (A.seen arenas.old) (A.seen arenas.new) (R.seen raws.old) (R.seen raws.new)) }
-        ensures plans { SamePlans (A.seen arenas.old) (A.seen arenas.new) (R.seen raws.old) (R.seen raws.new) }
+
+        // What block there is.
+        ensures made { IfOk result (λ made.
+            IsMade letter n new_byte locked self.old self.new made.got made.asked) }
         ensures failed { OnErr result (self.new ≡ self.old) }
-        ensures once { OnErr result (AreAskedOnce (A.seen arenas.old) (A.seen arenas.new) (R.seen raws.old) (R.seen raws.new)) }
-        ensures traded { AreTraded self.old self.new (A.seen arenas.old) (A.seen arenas.new) (R.seen raws.old) (R.seen raws.new) }
+        ensures came_to_ask { OnErr result (decision letter n locked None ≡ asks) }
+
+        // What the sources were asked.
+        ensures answered { IfOk result (λ made. AreAnswered made.asked
+            (A.seen arenas.old) (A.seen arenas.new) (R.seen raws.old) (R.seen raws.new)) }
+        ensures plans { SamePlans
+            (A.seen arenas.old) (A.seen arenas.new) (R.seen raws.old) (R.seen raws.new) }
+        ensures once { OnErr result (AreAskedOnce
+            (A.seen arenas.old) (A.seen arenas.new) (R.seen raws.old) (R.seen raws.new)) }
+
+        // What the domains hold.
+        ensures traded { AreTraded self.old self.new
+            (A.seen arenas.old) (A.seen arenas.new) (R.seen raws.old) (R.seen raws.new) }
         ensures held { AreHeld self.new (A.seen arenas.new) (R.seen raws.new) }
         ensures sound { AreSound self.new.heap self.new.raws }
     {
+        // A read of a field tells what always holds of both heaps, which each answer says again.
         let _inside = &self.heap;
-        match decide(letter, n, locked) {
+        let wanted = Wanted {
+            letter,
+            n,
+            zero: false,
+        };
+        match decide(letter, n, locked, None) {
             Decision::TooGreat => Ok(Made {
                 got: Got::Null,
                 asked: NOT_ASKED,
             }),
-            Decision::LacksLock => Ok(Made {
-                got: Got::Fault(Fault::Unlocked),
+            Decision::Faults(found) => Ok(Made {
+                got: Got::Fault(found),
                 asked: NOT_ASKED,
             }),
             Decision::Asks => match letter {
-                Letter::Raw => self.take_raw(letter, n, Grant::NotAsked, arenas, raws),
-                Letter::Mem | Letter::Obj => self.take_pooled(letter, n, arenas, raws),
+                Letter::Raw => self.take_raw(wanted, Grant::NotAsked, arenas, raws),
+                Letter::Mem | Letter::Obj => self.take_pooled(wanted, arenas, raws),
             },
         }
     }
 
     /// The fault of a call that needs the interpreter lock and does not have it.
     pub fn need(&self, letter: Letter, locked: bool) -> Option<Fault>
-        ensures { result ≡ (if is_unlocked letter locked then Some Fault.Unlocked else None) }
+        ensures { result ≡ call_fault letter locked None }
     {
-        if is_unlocked_call(letter, locked) {
-            Some(Fault::Unlocked)
-        } else {
-            None
-        }
+        fault_of_call(letter, locked, None)
     }
 
     /// Gives up a block, unless the call lacks the lock that it needs or the check of the block finds
@@ -200,16 +258,16 @@ impl Domains {
         requires loan { IsLoan (guard_extent old) self.old }
         requires held { AreHeld self.old (A.seen arenas.old) (R.seen raws.old) }
         ensures freed { IsFreed letter locked old self.old self.new result }
-        ensures nothing { AreAskedNothing (A.seen arenas.old) (A.seen arenas.new) (R.seen raws.old) (R.seen raws.new) }
-        ensures traded { AreTraded self.old self.new (A.seen arenas.old) (A.seen arenas.new) (R.seen raws.old) (R.seen raws.new) }
+        ensures nothing { AreAskedNothing
+            (A.seen arenas.old) (A.seen arenas.new) (R.seen raws.old) (R.seen raws.new) }
+        ensures traded { AreTraded self.old self.new
+            (A.seen arenas.old) (A.seen arenas.new) (R.seen raws.old) (R.seen raws.new) }
         ensures held { AreHeld self.new (A.seen arenas.new) (R.seen raws.new) }
         ensures sound { AreSound self.new.heap self.new.raws }
     {
+        // A read of a field tells what always holds of both heaps, which a fault says again.
         let _inside = &self.heap;
-        if is_unlocked_call(letter, locked) {
-            return Freed::Fault(old, Fault::Unlocked);
-        }
-        match check(&old, letter) {
+        match fault_of_call(letter, locked, check(&old, letter)) {
             Some(found) => Freed::Fault(old, found),
             None => {
                 self.drop_block(old, arenas, raws);
@@ -228,8 +286,10 @@ impl Domains {
         requires loan { IsLoan (guard_extent g) self.old }
         requires held { AreHeld self.old (A.seen arenas.old) (R.seen raws.old) }
         ensures back { IsGivenUp g self.old self.new }
-        ensures nothing { AreAskedNothing (A.seen arenas.old) (A.seen arenas.new) (R.seen raws.old) (R.seen raws.new) }
-        ensures traded { AreTraded self.old self.new (A.seen arenas.old) (A.seen arenas.new) (R.seen raws.old) (R.seen raws.new) }
+        ensures nothing { AreAskedNothing
+            (A.seen arenas.old) (A.seen arenas.new) (R.seen raws.old) (R.seen raws.new) }
+        ensures traded { AreTraded self.old self.new
+            (A.seen arenas.old) (A.seen arenas.new) (R.seen raws.old) (R.seen raws.new) }
         ensures held { AreHeld self.new (A.seen arenas.new) (R.seen raws.new) }
         ensures sound { AreSound self.new.heap self.new.raws }
     {
@@ -264,7 +324,8 @@ impl Domains {
     pub fn end<A: ArenaSource, R: RawSource>(self, arenas: &mut A, raws: &mut R)
         requires none { (self.heap.loans ≡ []) × (self.raws ≡ []) }
         requires held { AreHeld self (A.seen arenas.old) (R.seen raws.old) }
-        ensures nothing { AreAskedNothing (A.seen arenas.old) (A.seen arenas.new) (R.seen raws.old) (R.seen raws.new) }
+        ensures nothing { AreAskedNothing
+            (A.seen arenas.old) (A.seen arenas.new) (R.seen raws.old) (R.seen raws.new) }
         ensures arenas { Traded self.heap.regions [] (A.seen arenas.old) (A.seen arenas.new) }
         ensures raws { R.seen raws.new ≡ R.seen raws.old }
     {

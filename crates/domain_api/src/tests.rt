@@ -7,6 +7,9 @@ use sources::{ArenaSource, MemArenas, MemRaw, RawSource};
 use std::alloc::{AllocError, Global};
 use std::test::Fail;
 
+// This takes only what can go to another thread.
+fn crosses<T: Send>(_value: &T) {}
+
 // What a test sees of a block that is made and given up at once.
 #[derive(Drop)]
 struct Seen {
@@ -28,6 +31,7 @@ fn one_block<A: ArenaSource, R: RawSource>(
     requires apart { AreDisjoint (A.seen arenas.old).window (R.seen raws.old).window }
 {
     let mut domains = Domains::new(alloc)?;
+    crosses(&domains);
     let Made { got, asked } = match domains.malloc(letter, n, true, arenas, raws) {
         Ok(made) => made,
         Err(error) => {

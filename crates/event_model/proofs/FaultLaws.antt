@@ -1,11 +1,12 @@
--- A fault is the last event of a history.
+-- A fault changes nothing but that it has come, and is the last event of a history.
 use Rattle.std.proofs.Common.{◌≡◌, ℕ, Bool, true, false, cond, List, [], ◌∷◌, ◌++◌, Option, Some, None, refl, sym, ap, ◌∙◌, true≢false}
 use Rattle.mem_base.specs.declared.history.Entry.{Entry}
 use Rattle.trace_model.specs.Plain.{Action, PlainTrack}
-use Rattle.event_model.specs.Effects.{State, PlainReply, effect}
-use Rattle.event_model.specs.Events.{event, event_of, next_action, advanced, is_fault}
+use Rattle.event_model.specs.Effects.{effect}
+use Rattle.event_model.specs.Events.{event, event_of, next_action, advance}
 use Rattle.event_model.specs.History.{opening, state_after, IsLegalFrom, IsLegal, EndsInFault}
-use Rattle.event_model.proofs.LeftLaws.{effect_keeps}
+use Rattle.event_model.specs.Replies.{PlainReply, is_fault}
+use Rattle.event_model.specs.State.{Held, State}
 
 -- from a state in which no fault has come, the events end in one
 record EndsFrom (tracks : List PlainTrack) (s : State) (es : List Entry) : Type 0 where
@@ -15,23 +16,35 @@ record EndsFrom (tracks : List PlainTrack) (s : State) (es : List Entry) : Type 
   pub sound : (state_after tracks s earlier).faulted ≡ false
   pub fault : is_fault (event tracks (state_after tracks s earlier) last).1 ≡ true
 
-abbrev chosen : List PlainTrack → ℕ → State × PlainReply → Bool → State × PlainReply
-chosen tracks t r b = cond b (record r.0 { faulted = true }, r.1) (advanced tracks t r.0, r.1)
+-- what a state settles to, by whether the reply is a fault
+abbrev settled_by : List PlainTrack → ℕ → State → Held × PlainReply → Bool → State
+settled_by tracks t s r b = cond b (record s { faulted = true }) (advance tracks t s r.0)
+
+-- a fault leaves the state, but that it has come
+pub fault_keeps : (tracks : List PlainTrack) (s : State) (e : Entry) → is_fault (event tracks s e).1 ≡ true → (event tracks s e).0 ≡ record s { faulted = true }
+unfolding event
+fault_keeps tracks s e is = by (next_action tracks s e.track) is
+  where
+    by : (o : Option Action) → is_fault (event_of tracks s e.track e.arena e.raw o).1 ≡ true → (event_of tracks s e.track e.arena e.raw o).0 ≡ record s { faulted = true }
+    by None is = absurd (true≢false (sym is))
+    by (Some a) is = ap (settled_by tracks e.track s (effect s.held e.track a e.arena e.raw)) is
+
+-- no other reply says that a fault has come
+pub others_keep : (tracks : List PlainTrack) (s : State) (e : Entry) → is_fault (event tracks s e).1 ≡ false → (event tracks s e).0.faulted ≡ s.faulted
+unfolding event
+others_keep tracks s e is = by (next_action tracks s e.track) is
+  where
+    by : (o : Option Action) → is_fault (event_of tracks s e.track e.arena e.raw o).1 ≡ false → (event_of tracks s e.track e.arena e.raw o).0.faulted ≡ s.faulted
+    by None is = refl
+    by (Some a) is = ap (λ (b : Bool). (settled_by tracks e.track s (effect s.held e.track a e.arena e.raw) b).faulted) is
 
 -- an event after which a fault has come is one, if none had come before
-chosen_fault : (tracks : List PlainTrack) (t : ℕ) (r : State × PlainReply) (b : Bool) → r.0.faulted ≡ false → is_fault r.1 ≡ b → (chosen tracks t r b).0.faulted ≡ true → is_fault (chosen tracks t r b).1 ≡ true
-chosen_fault tracks t r true sound is fell = is
-chosen_fault tracks t r false sound is fell = absurd (true≢false (sym fell ∙ sound))
-
 fell_now : (tracks : List PlainTrack) (s : State) (e : Entry) → s.faulted ≡ false → (event tracks s e).0.faulted ≡ true → is_fault (event tracks s e).1 ≡ true
-unfolding event
-fell_now tracks s e sound fell = by (next_action tracks s e.track) fell
+fell_now tracks s e sound fell = by (is_fault (event tracks s e).1) refl
   where
-    by : (o : Option Action) → (event_of tracks s e.track e.arena e.raw o).0.faulted ≡ true → is_fault (event_of tracks s e.track e.arena e.raw o).1 ≡ true
-    by None fell = absurd (true≢false (sym fell ∙ sound))
-    by (Some a) fell =
-        let r = effect s e.track a e.arena e.raw in
-        chosen_fault tracks e.track r (is_fault r.1) ((effect_keeps s e.track a e.arena e.raw).faulted ∙ sound) refl fell
+    by : (b : Bool) → is_fault (event tracks s e).1 ≡ b → b ≡ true
+    by true is = refl
+    by false is = absurd (true≢false (sym fell ∙ others_keep tracks s e is ∙ sound))
 
 ends_from : (tracks : List PlainTrack) (s : State) (es : List Entry) → s.faulted ≡ false → IsLegalFrom tracks s es → (state_after tracks s es).faulted ≡ true → EndsFrom tracks s es
 ends_from tracks s [] sound legal fell = absurd (true≢false (sym fell ∙ sound))

@@ -2,9 +2,9 @@
 use Rattle.std.proofs.Common.{◌≡◌, List, [], ◌∷◌, ◌++◌, refl}
 use Rattle.mem_base.specs.declared.history.Entry.{Entry}
 use Rattle.trace_model.specs.Plain.{PlainTrack}
-use Rattle.event_model.specs.Effects.{State}
 use Rattle.event_model.specs.Events.{event}
 use Rattle.event_model.specs.History.{state_after, IsNext, IsLegalFrom}
+use Rattle.event_model.specs.State.{State}
 
 pub state_push : (tracks : List PlainTrack) (s : State) (es : List Entry) (e : Entry) → state_after tracks s (es ++ e ∷ []) ≡ (event tracks (state_after tracks s es) e).0
 state_push tracks s [] e = refl

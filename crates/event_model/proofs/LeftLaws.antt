@@ -4,69 +4,41 @@ use Rattle.std.specs.Prelude.{slice_index}
 use Rattle.std.specs.Option.{option_and_then}
 use Rattle.std.proofs.lemmas.Option.{slice_get_within}
 use Rattle.std.proofs.lemmas.List.Sums.{sum_by-cons}
-use Rattle.mem_base.specs.declared.history.Grant.{Grant}
-use Rattle.mem_base.specs.declared.history.Ask.{Ask}
 use Rattle.mem_base.specs.declared.history.Entry.{Entry}
-use Rattle.trace_model.specs.Plain.{Action, acquire, release, malloc, free, poke, peek, heap, refuse, other, PlainTrack}
+use Rattle.trace_model.specs.Plain.{Action, PlainTrack}
 use Rattle.trace_model.specs.Spelling.{action_count}
-use Rattle.event_model.specs.Effects.{State, PlainReply, ok, held, not_held, effect, is_owner}
-use Rattle.event_model.specs.Events.{event, event_of, settled, advanced, is_fault, next_action, may_do, ops_left, left_in}
+use Rattle.event_model.specs.Effects.{effect}
+use Rattle.event_model.specs.Events.{event, event_of, settle, advance, next_action, may_do, ops_left, left_in}
 use Rattle.event_model.specs.History.{opening, state_after, last_state, IsNext, IsLegalFrom, IsLegal}
+use Rattle.event_model.specs.Replies.{PlainReply, is_fault}
+use Rattle.event_model.specs.State.{Held, State}
 use Rattle.event_model.proofs.HistoryLaws.{state_push}
-
--- ---- what an operation leaves as it was
-
-pub record Keeps (s : State) (r : State × PlainReply) : Type 0 where
-  pub done : r.0.done ≡ s.done
-  pub faulted : r.0.faulted ≡ s.faulted
-
-lock_keeps : (s : State) (b : Bool) (owner : Option ℕ) → Keeps s (cond b (s, held) (record s { owner = owner }, ok))
-lock_keeps s true owner = record { done = refl; faulted = refl }
-lock_keeps s false owner = record { done = refl; faulted = refl }
-
-unlock_keeps : (s : State) (b : Bool) (owner : Option ℕ) → Keeps s (cond b (record s { owner = owner }, ok) (s, not_held))
-unlock_keeps s true owner = record { done = refl; faulted = refl }
-unlock_keeps s false owner = record { done = refl; faulted = refl }
-
-pub effect_keeps : (s : State) (t : ℕ) (a : Action) (arena : Grant) (raw : Ask) → Keeps s (effect s t a arena raw)
-effect_keeps s t acquire arena raw = lock_keeps s (is_owner s.owner t) (Some t)
-effect_keeps s t release arena raw = unlock_keeps s (is_owner s.owner t) None
-effect_keeps s t (malloc v name n) arena raw = record { done = refl; faulted = refl }
-effect_keeps s t (free v name) arena raw = record { done = refl; faulted = refl }
-effect_keeps s t (poke name offset new) arena raw = record { done = refl; faulted = refl }
-effect_keeps s t (peek name offset count) arena raw = record { done = refl; faulted = refl }
-effect_keeps s t heap arena raw = record { done = refl; faulted = refl }
-effect_keeps s t (refuse side k) arena raw = record { done = refl; faulted = refl }
-effect_keeps s t other arena raw = record { done = refl; faulted = refl }
 
 -- ---- as many tracks as there were
 
-abbrev chosen : List PlainTrack → ℕ → State × PlainReply → Bool → State × PlainReply
-chosen tracks t r b = cond b (record r.0 { faulted = true }, r.1) (advanced tracks t r.0, r.1)
+settle_length : (tracks : List PlainTrack) (t : ℕ) (s : State) (r : Held × PlainReply) → length (settle tracks t s r).done ≡ length s.done
+settle_length tracks t s r = by (is_fault r.1)
+  where
+    by : (b : Bool) → length (cond b (record s { faulted = true }) (advance tracks t s r.0)).done ≡ length s.done
+    by true = refl
+    by false = length-set s.done t (slice_index s.done t + 1)
 
-chosen_length : (tracks : List PlainTrack) (t : ℕ) (r : State × PlainReply) (b : Bool) → length (chosen tracks t r b).0.done ≡ length r.0.done
-chosen_length tracks t r true = refl
-chosen_length tracks t r false = length-set r.0.done t (slice_index r.0.done t + 1)
-
-settled_length : (tracks : List PlainTrack) (t : ℕ) (r : State × PlainReply) → length (settled tracks t r).0.done ≡ length r.0.done
-settled_length tracks t r = chosen_length tracks t r (is_fault r.1)
-
-event_length : (tracks : List PlainTrack) (s : State) (e : Entry) → length (event tracks s e).0.done ≡ length s.done
+pub event_length : (tracks : List PlainTrack) (s : State) (e : Entry) → length (event tracks s e).0.done ≡ length s.done
 unfolding event
 event_length tracks s e = by (next_action tracks s e.track)
   where
     by : (o : Option Action) → length (event_of tracks s e.track e.arena e.raw o).0.done ≡ length s.done
     by None = refl
-    by (Some a) = settled_length tracks e.track (effect s e.track a e.arena e.raw) ∙ ap length (effect_keeps s e.track a e.arena e.raw).done
+    by (Some a) = settle_length tracks e.track s (effect s.held e.track a e.arena e.raw)
 
 after_length : (tracks : List PlainTrack) (s : State) (es : List Entry) → length (state_after tracks s es).done ≡ length s.done
 after_length tracks s [] = refl
 after_length tracks s (e ∷ es) = after_length tracks (event tracks s e).0 es ∙ event_length tracks s e
 
-abbrev none_done : List PlainTrack → List ℕ
+abbrev pub none_done : List PlainTrack → List ℕ
 none_done tracks = map (λ t. 0) tracks
 
-map_length : (tracks : List PlainTrack) → length (none_done tracks) ≡ length tracks
+pub map_length : (tracks : List PlainTrack) → length (none_done tracks) ≡ length tracks
 map_length [] = refl
 map_length (t ∷ ts) = ap suc (map_length ts)
 
@@ -89,7 +61,7 @@ pub waits : (owner : Option ℕ) (t : ℕ) (o : Option Action) → may_do owner 
 waits owner t None h = absurd (true≢false (sym h))
 waits owner t (Some a) h = (a, refl)
 
-at_track : (o : Option PlainTrack) (d : ℕ) (a : Action) → option_and_then (λ track. slice_get track.actions d) o ≡ Some a → (track : PlainTrack) × (o ≡ Some track) × (slice_get track.actions d ≡ Some a)
+pub at_track : (o : Option PlainTrack) (d : ℕ) (a : Action) → option_and_then (λ track. slice_get track.actions d) o ≡ Some a → (track : PlainTrack) × (o ≡ Some track) × (slice_get track.actions d ≡ Some a)
 at_track None d a h = absurd cc
 at_track (Some track) d a h = (track, refl, h)
 
@@ -98,34 +70,26 @@ abbrev weight : Bool → ℕ
 weight b = cond b 0 1
 
 -- what is left where one operation is done, or a fault comes
-less : (tracks : List PlainTrack) (s : State) (t : ℕ) (a : Action) (arena : Grant) (raw : Ask) → s.faulted ≡ false → length s.done ≡ length tracks → next_action tracks s t ≡ Some a
-    → left_in tracks (settled tracks t (effect s t a arena raw)).0 < left_in tracks s
-less tracks s t a arena raw sound same is =
-    let r = effect s t a arena raw in
-    let keeps = effect_keeps s t a arena raw in
+less : (tracks : List PlainTrack) (s : State) (t : ℕ) (a : Action) (r : Held × PlainReply) → s.faulted ≡ false → length s.done ≡ length tracks → next_action tracks s t ≡ Some a
+    → left_in tracks (settle tracks t s r) < left_in tracks s
+less tracks s t a r sound same is =
     let there = at_track (slice_get tracks t) (slice_index s.done t) a is in
     let within : t < length s.done = omega (arith, same, slice_get_within tracks t there.0 there.1) in
     let some : slice_index s.done t < length there.0.actions = slice_get_within there.0.actions (slice_index s.done t) a there.2 in
-    let fewer = ops_less tracks s.done t there.0 there.1 within some in
     let before : weight s.faulted ≡ 1 = ap weight sound in
-    let unfaulted : weight r.0.faulted ≡ 1 = ap weight (keeps.faulted ∙ sound) in
-    let done_is : ops_left tracks r.0.done ≡ ops_left tracks s.done = ap (ops_left tracks) keeps.done in
-    let later : ops_left tracks (set r.0.done t (slice_index r.0.done t + 1)) ≡ ops_left tracks (set s.done t (slice_index s.done t + 1)) = ap (λ (d : List ℕ). ops_left tracks (set d t (slice_index d t + 1))) keeps.done in
-    by r (is_fault r.1) before unfaulted done_is later fewer
+    by (is_fault r.1) before (ops_less tracks s.done t there.0 there.1 within some)
   where
-    by : (r : State × PlainReply) (b : Bool) → weight s.faulted ≡ 1 → weight r.0.faulted ≡ 1 → ops_left tracks r.0.done ≡ ops_left tracks s.done
-        → ops_left tracks (set r.0.done t (slice_index r.0.done t + 1)) ≡ ops_left tracks (set s.done t (slice_index s.done t + 1))
-        → ops_left tracks (set s.done t (slice_index s.done t + 1)) + 1 ≡ ops_left tracks s.done
-        → left_in tracks (chosen tracks t r b).0 < left_in tracks s
-    by r true before unfaulted done_is later fewer = omega (arith, before, done_is)
-    by r false before unfaulted done_is later fewer = omega (arith, before, unfaulted, later, fewer)
+    by : (b : Bool) → weight s.faulted ≡ 1 → ops_left tracks (set s.done t (slice_index s.done t + 1)) + 1 ≡ ops_left tracks s.done
+        → left_in tracks (cond b (record s { faulted = true }) (advance tracks t s r.0)) < left_in tracks s
+    by true before fewer = omega (arith, before)
+    by false before fewer = omega (arith, before, fewer)
 
 next_less : (tracks : List PlainTrack) (s : State) (e : Entry) → length s.done ≡ length tracks → IsNext tracks s e → left_in tracks (event tracks s e).0 < left_in tracks s
 unfolding event
 next_less tracks s e same next =
-    let w = waits s.owner e.track (next_action tracks s e.track) next.ready in
-    let then_is : (event tracks s e).0 ≡ (settled tracks e.track (effect s e.track w.0 e.arena e.raw)).0 = ap (λ (o : Option Action). (event_of tracks s e.track e.arena e.raw o).0) w.1 in
-    subst (λ (x : State). left_in tracks x < left_in tracks s) (sym then_is) (less tracks s e.track w.0 e.arena e.raw next.no_fault same w.1)
+    let w = waits s.held.owner e.track (next_action tracks s e.track) next.ready in
+    let then_is : (event tracks s e).0 ≡ settle tracks e.track s (effect s.held e.track w.0 e.arena e.raw) = ap (λ (o : Option Action). (event_of tracks s e.track e.arena e.raw o).0) w.1 in
+    subst (λ (x : State). left_in tracks x < left_in tracks s) (sym then_is) (less tracks s e.track w.0 (effect s.held e.track w.0 e.arena e.raw) next.no_fault same w.1)
 
 pub leaves_less : (tracks : List PlainTrack) (es : List Entry) (e : Entry) → IsNext tracks (last_state tracks es) e → left_in tracks (last_state tracks (es ++ e ∷ [])) < left_in tracks (last_state tracks es)
 leaves_less tracks es e next =

@@ -1,8 +1,13 @@
-pub mod FaultLaws
-pub mod HistoryLaws
-pub mod LayoutLaws
-pub mod LeftLaws
-pub mod NullLaws
-pub mod RequestLaws
-pub mod SoundLaws
-pub mod TakenLaws
+pub mod CallerLemmas
+mod EffectLaws
+mod FaultLaws
+mod HistoryLaws
+mod KeepLaws
+mod LayoutLaws
+mod LeftLaws
+mod NameLaws
+mod NullLaws
+mod PlanLaws
+mod SoundLaws
+mod TakenLaws
+mod WaitLaws

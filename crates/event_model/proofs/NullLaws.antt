@@ -1,104 +1,88 @@
--- Which events answer null.
-use Rattle.std.proofs.Common.{◌≡◌, ℕ, ◌<◌, Bool, true, false, cond, Option, Some, None, IsNone, List, refl, sym, ap, subst, ◌∙◌, inl, inr, ◌⊎◌, true≢false}
-use Rattle.std.specs.Prelude.{nat_lt, length, not, ◌||◌}
-use Rattle.std.proofs.lemmas.Bool.{ltb-true, lt-ltb}
+-- Which turns answer null.
+use Rattle.std.proofs.Common.{◌≡◌, ℕ, ◌<◌, ◌≤◌, Bool, true, false, cond, Option, Some, None, IsNone, List, refl, sym, ap, ◌∙◌, inl, inr, ◌⊎◌, true≢false, arith}
+use Rattle.std.specs.Prelude.{length, not, ◌||◌}
+use Rattle.std.proofs.lemmas.Bool.Decides.{leb_tells}
+use Rattle.mem_base.specs.Name.{Name}
 use Rattle.mem_base.specs.declared.history.Grant.{Grant}
 use Rattle.mem_base.specs.declared.history.Grant.TheVariants as grant
 use Rattle.mem_base.specs.declared.history.Ask.{Ask}
 use Rattle.mem_base.specs.declared.history.Ask.TheVariants as ask
 use Rattle.mem_base.specs.declared.history.Entry.{Entry}
 use Rattle.mem_base.specs.declared.reply.Fault.{Fault}
+use Rattle.mem_base.specs.declared.reply.Fault.TheVariants.{Unlocked, BadId, BadLead, BadTail}
 use Rattle.mem_base.specs.declared.trace.Letter.{Letter}
 use Rattle.mem_base.specs.declared.trace.Letter.TheVariants.{Raw, Mem, Obj}
-use Rattle.trace_model.specs.Plain.{Name, Action, acquire, release, malloc, free, poke, peek, heap, refuse, other, PlainTrack}
-use Rattle.block_model.specs.Block.{finding_in, reaches, peeked, poked}
+use Rattle.block_model.specs.Block.{Body, reaches, peeked, poked}
 use Rattle.layout_model.specs.Asks.{Request, FitsRequest, is_refused, raw_was_asked}
 use Rattle.layout_model.specs.Asks.Request.{FromPools, FromRaw, NoRequest}
 use Rattle.layout_model.specs.Layout.{Layout}
 use Rattle.layout_model.specs.Place.{place}
 use Rattle.layout_model.specs.Sizes.{is_small, class_of}
-use Rattle.layout_model.proofs.Asks.{only_refusals_place_nothing, requests_fit_their_class}
-use Rattle.event_model.specs.Blocks.{Home, Block, find}
-use Rattle.event_model.specs.Effects.{State, PlainReply, Turn, turn_to, Housing, raw_home, pool_home, housed, new_block, request, ok, null, held, not_held, outside, bytes, unlocked, effect, Decision, decision, decided, made, too_great, lacks_lock, asks, given_up, checked, written, read, is_owner, is_unlocked, max_size, max_data}
-use Rattle.event_model.specs.Events.{event, event_of, settled, advanced, is_fault, next_action}
-use Rattle.event_model.specs.History.{IsNext}
-use Rattle.event_model.specs.Laws.{IsNull, IsNullMalloc}
-use Rattle.event_model.specs.Requests.{malloc_request, request_of, next_request}
-use Rattle.event_model.proofs.LeftLaws.{waits}
-use Rattle.event_model.proofs.SoundLaws.{small_is}
+use Rattle.layout_model.proofs.CallerLemmas.{only_refusals_place_nothing, requests_fit_their_class}
+use Rattle.map_model.specs.Map.{find}
+use Rattle.request_model.specs.Decision.{Decision, too_great, faults, asks, call_fault, decision, request, request_after, is_unlocked, max_size, max_data}
+use Rattle.request_model.proofs.CallerLemmas.{Decides, over_all, faulty, over_data, within, decides}
+use Rattle.event_model.specs.Blocks.{Home, Block}
+use Rattle.event_model.specs.Laws.{IsNullMalloc}
+use Rattle.event_model.specs.Lock.{acquire_turn, release_turn}
+use Rattle.event_model.specs.Memory.{Turn, turn_to, Room, raw_home, pool_home, small_room, room_for, new_block, new_block_turn, malloc_turn, free_unless, poke_turn, peek_turn, malloc_request}
+use Rattle.event_model.specs.Replies.{PlainReply, ok, null, held, not_held, outside, bytes, fault_in, is_fault}
+use Rattle.event_model.specs.State.{Held, is_owner}
 
--- ---- the reply of an event is that of its operation
+-- ---- turns that never answer null
 
-settled_reply : (tracks : List PlainTrack) (t : ℕ) (r : State × PlainReply) → (settled tracks t r).1 ≡ r.1
-settled_reply tracks t r = by (is_fault r.1)
+pub acquire_null : (t : ℕ) (owner : Option ℕ) → (acquire_turn t owner).1 ≡ null → ⊥
+acquire_null t owner h = by (is_owner owner t) h
   where
-    by : (b : Bool) → (cond {A = State × PlainReply} b (record r.0 { faulted = true }, r.1) (advanced tracks t r.0, r.1)).1 ≡ r.1
-    by true = refl
-    by false = refl
+    by : (b : Bool) → (cond {A = Option ℕ × PlainReply} b (owner, held) (Some t, ok)).1 ≡ null → ⊥
+    by true h = absurd cc
+    by false h = absurd cc
 
-reply_of : (tracks : List PlainTrack) (s : State) (e : Entry) (a : Action) → next_action tracks s e.track ≡ Some a → (event tracks s e).1 ≡ (effect s e.track a e.arena e.raw).1
-unfolding event
-reply_of tracks s e a is = ap (λ (o : Option Action). (event_of tracks s e.track e.arena e.raw o).1) is ∙ settled_reply tracks e.track (effect s e.track a e.arena e.raw)
-
--- ---- what a request comes to
-
--- a decision, and what it says of the size and the lock
-data Decides (v : Letter) (n : ℕ) (locked : Bool) : Decision → Type 0 where
-  over_all : max_size < n → Decides v n locked too_great
-  bare : Decides v n locked lacks_lock
-  over_data : max_data < n → is_unlocked v locked ≡ false → Decides v n locked too_great
-  within : (max_size < n → ⊥) → (max_data < n → is_unlocked v locked ≡ false → ⊥) → Decides v n locked asks
-
-decides : (v : Letter) (n : ℕ) (locked : Bool) → Decides v n locked (decision v n locked)
-decides v n locked = by (nat_lt max_size n) (is_unlocked v locked) (nat_lt max_data n) refl refl refl
+pub release_null : (t : ℕ) (owner : Option ℕ) → (release_turn t owner).1 ≡ null → ⊥
+release_null t owner h = by (is_owner owner t) h
   where
-    by : (great lacks greater : Bool) → nat_lt max_size n ≡ great → is_unlocked v locked ≡ lacks → nat_lt max_data n ≡ greater
-        → Decides v n locked (cond great too_great (cond lacks lacks_lock (cond greater too_great asks)))
-    by true lacks greater g l m = over_all (ltb-true max_size n g)
-    by false true greater g l m = bare
-    by false false true g l m = over_data (ltb-true max_data n m) l
-    by false false false g l m = within (λ h. true≢false (sym (lt-ltb max_size n h) ∙ g)) (λ h h2. true≢false (sym (lt-ltb max_data n h) ∙ m))
+    by : (b : Bool) → (cond {A = Option ℕ × PlainReply} b (None, ok) (owner, not_held)).1 ≡ null → ⊥
+    by true h = absurd cc
+    by false h = absurd cc
 
--- ---- an event that answers null
+-- what a call with a fault answers is a fault
+pub fault_in_is : (body : Body) (found : Fault) → is_fault (fault_in body found) ≡ true
+fault_in_is body Unlocked = refl
+fault_in_is body (BadId found verified) = refl
+fault_in_is body (BadLead k) = refl
+fault_in_is body (BadTail k) = refl
 
-lock_null : (s r : State) (b : Bool) → (cond {A = State × PlainReply} b (s, held) (r, ok)).1 ≡ null → ⊥
-lock_null s r true h = absurd cc
-lock_null s r false h = absurd cc
+pub free_null : (o : Option Fault) (l : Layout) (now : Option Block) → (free_unless o l now).answer ≡ null → ⊥
+free_null None l None h = absurd cc
+free_null None l (Some block) h = absurd cc
+free_null (Some found) l None h = absurd cc
+free_null (Some found) l (Some block) h = absurd (true≢false (sym (fault_in_is block.body found) ∙ ap is_fault h))
 
-unlock_null : (s r : State) (b : Bool) → (cond {A = State × PlainReply} b (r, ok) (s, not_held)).1 ≡ null → ⊥
-unlock_null s r true h = absurd cc
-unlock_null s r false h = absurd cc
+either_null : (l : Layout) (a b : Option Block) (p q : PlainReply) (c : Bool) → (p ≡ null → ⊥) → (q ≡ null → ⊥) → (cond {A = Turn} c (turn_to a l p) (turn_to b l q)).answer ≡ null → ⊥
+either_null l a b p q true first second h = first h
+either_null l a b p q false first second h = second h
 
-given_null : (l : Layout) (block : Block) (o : Option Fault) → (given_up l block o).answer ≡ null → ⊥
-given_null l block None h = absurd cc
-given_null l block (Some found) h = absurd cc
-
-checked_null : (v : Letter) (l : Layout) (now : Option Block) → (checked v l now).answer ≡ null → ⊥
-checked_null v l None h = absurd cc
-checked_null v l (Some block) h = given_null l block (finding_in v block.body) h
-
-freed_null : (v : Letter) (l : Layout) (now : Option Block) (b : Bool) → (cond {A = Turn} b (turn_to now l unlocked) (checked v l now)).answer ≡ null → ⊥
-freed_null v l now true h = absurd cc
-freed_null v l now false h = checked_null v l now h
-
-written_null : (l : Layout) (a b : Option Block) (c : Bool) → (cond {A = Turn} c (turn_to a l ok) (turn_to b l outside)).answer ≡ null → ⊥
-written_null l a b true h = absurd cc
-written_null l a b false h = absurd cc
-
-poke_null : (offset : _) (new : List ℕ) (l : Layout) (now : Option Block) → (written offset new l now).answer ≡ null → ⊥
+pub poke_null : (offset : _) (new : List ℕ) (l : Layout) (now : Option Block) → (poke_turn offset new l now).answer ≡ null → ⊥
 poke_null offset new l None h = absurd cc
 poke_null offset new l (Some block) h =
-    written_null l (Some (record block { body = poked block.body offset new })) (Some block) (reaches block.body offset (length new)) h
+    either_null l (Some (record block { body = poked block.body offset new })) (Some block) ok outside (reaches block.body offset (length new)) (λ e. absurd cc) (λ e. absurd cc) h
 
-read_null : (l : Layout) (a b : Option Block) (found : List ℕ) (c : Bool) → (cond {A = Turn} c (turn_to a l (bytes found)) (turn_to b l outside)).answer ≡ null → ⊥
-read_null l a b found true h = absurd cc
-read_null l a b found false h = absurd cc
-
-peek_null : (offset : _) (count : ℕ) (l : Layout) (now : Option Block) → (read offset count l now).answer ≡ null → ⊥
+pub peek_null : (offset : _) (count : ℕ) (l : Layout) (now : Option Block) → (peek_turn offset count l now).answer ≡ null → ⊥
 peek_null offset count l None h = absurd cc
-peek_null offset count l (Some block) h = read_null l (Some block) (Some block) (peeked block.body offset count) (reaches block.body offset count) h
+peek_null offset count l (Some block) h =
+    either_null l (Some block) (Some block) (bytes (peeked block.body offset count)) outside (reaches block.body offset count) (λ e. absurd cc) (λ e. absurd cc) h
 
--- ---- a request without a home
+-- ---- a request without room
+
+-- a small request is of 1 to 512 bytes
+pub small_is : (m : ℕ) → is_small m ≡ true → (1 ≤ m) × (m ≤ 512)
+small_is m small = elim (leb_tells 1 m) [
+  | inl w ↦ elim (leb_tells m 512) [
+    | inl v ↦ (w.1, v.1)
+    | inr v ↦ absurd (true≢false (sym (rw (w.0, v.0) at small)))
+  ]
+  | inr w ↦ absurd (true≢false (sym (rw w.0 at small)))
+]
 
 asked_refused : (raw : Ask) → raw_was_asked raw ≡ true → raw_home raw ≡ None → raw ≡ ask.Refused
 asked_refused ask.NotAsked asked none = absurd (true≢false (sym asked))
@@ -119,131 +103,106 @@ none_home None raw none h = h
 none_home (Some k) raw none h = absurd (true≢false none)
 
 -- what a request of the pools leads to, by whether it is small
-abbrev housed_by : Layout → ℕ → Grant → Ask → Bool → Housing
-housed_by l m arena raw b =
-    cond b (record { home = pool_home (place l (class_of m) arena).pool raw; layout = (place l (class_of m) arena).layout }) (record { home = raw_home raw; layout = l })
+abbrev room_by : Layout → ℕ → Grant → Ask → Bool → Room
+room_by l m arena raw b =
+    cond b (small_room (place l (class_of m) arena) raw) (record { home = raw_home raw; layout = l })
 
--- with answers that fit, a request without a home was refused by the raw source
-no_home_refused : (l : Layout) (r : Request) (arena : Grant) (raw : Ask) → (r ≡ NoRequest → ⊥) → FitsRequest l r arena raw → (housed l r arena raw).home ≡ None → raw ≡ ask.Refused
-no_home_refused l (FromPools m) arena raw some fits none = by (is_small m) refl none
+-- with answers that fit, a request that finds no room was refused by the raw source
+no_room_refused : (l : Layout) (r : Request) (arena : Grant) (raw : Ask) → (r ≡ NoRequest → ⊥) → FitsRequest l r arena raw → (room_for l r arena raw).home ≡ None → raw ≡ ask.Refused
+no_room_refused l (FromPools m) arena raw some fits none = by (is_small m) refl none
   where
-    by : (b : Bool) → is_small m ≡ b → (housed_by l m arena raw b).home ≡ None → raw ≡ ask.Refused
+    by : (b : Bool) → is_small m ≡ b → (room_by l m arena raw b).home ≡ None → raw ≡ ask.Refused
     by true small none =
         let within = small_is m small in
         let neither = neither_home (place l (class_of m) arena).pool raw none in
         let law = only_refusals_place_nothing l (class_of m) arena (requests_fit_their_class l m arena raw within.0 within.1 fits) in
         asked_refused raw (fits.raw_asked ∙ ap (λ (b : Bool). not b || is_refused arena) small ∙ ap is_refused (law.0.0 neither.0)) neither.1
     by false large none = asked_refused raw (fits.raw_asked ∙ ap (λ (b : Bool). not b || is_refused arena) large) none
-no_home_refused l (FromRaw m) arena raw some fits none = asked_refused raw fits.raw_asked none
-no_home_refused l NoRequest arena raw some fits none = absurd (some refl)
+no_room_refused l (FromRaw m) arena raw some fits none = asked_refused raw fits.raw_asked none
+no_room_refused l NoRequest arena raw some fits none = absurd (some refl)
 
--- with answers that fit, a request that the raw source refused has no home
-refused_no_home : (l : Layout) (r : Request) (arena : Grant) (raw : Ask) → FitsRequest l r arena raw → raw ≡ ask.Refused → (housed l r arena raw).home ≡ None
-refused_no_home l (FromPools m) arena raw fits refused = by (is_small m) refl
+-- with answers that fit, a request that the raw source refused finds no room
+refused_no_room : (l : Layout) (r : Request) (arena : Grant) (raw : Ask) → FitsRequest l r arena raw → raw ≡ ask.Refused → (room_for l r arena raw).home ≡ None
+refused_no_room l (FromPools m) arena raw fits refused = by (is_small m) refl
   where
-    by : (b : Bool) → is_small m ≡ b → (housed_by l m arena raw b).home ≡ None
+    by : (b : Bool) → is_small m ≡ b → (room_by l m arena raw b).home ≡ None
     by true small =
         let within = small_is m small in
         let law = only_refusals_place_nothing l (class_of m) arena (requests_fit_their_class l m arena raw within.0 within.1 fits) in
         let no_arena = arena_refused arena (sym (ap (λ (b : Bool). not b || is_refused arena) small) ∙ sym fits.raw_asked ∙ ap raw_was_asked refused) in
         none_home (place l (class_of m) arena).pool raw (law.0.1 no_arena) (ap raw_home refused)
     by false large = ap raw_home refused
-refused_no_home l (FromRaw m) arena raw fits refused = ap raw_home refused
-refused_no_home l NoRequest arena raw fits refused = refl
+refused_no_room l (FromRaw m) arena raw fits refused = ap raw_home refused
+refused_no_room l NoRequest arena raw fits refused = refl
 
 request_asks : (v : Letter) (n : ℕ) → request v n ≡ NoRequest → ⊥
 request_asks Raw n is = absurd cc
 request_asks Mem n is = absurd cc
 request_asks Obj n is = absurd cc
 
-null_no_home : (v : Letter) (n : ℕ) (home : Option Home) (l : Layout) → (new_block v n home l).answer ≡ null → home ≡ None
-null_no_home v n None l h = refl
-null_no_home v n (Some home) l h = absurd cc
+null_no_room : (v : Letter) (n fill : ℕ) (home : Option Home) (l : Layout) → (new_block v n fill home l).answer ≡ null → home ≡ None
+null_no_room v n fill None l h = refl
+null_no_room v n fill (Some home) l h = absurd cc
+
+-- a call without a block has a fault exactly where it lacks the lock
+has_lock : (v : Letter) (locked : Bool) → call_fault v locked None ≡ None → is_unlocked v locked ≡ false
+has_lock v locked none = by (is_unlocked v locked) none
+  where
+    by : (b : Bool) → cond {A = Option Fault} b (Some Unlocked) None ≡ None → b ≡ false
+    by true none = absurd cc
+    by false none = refl
+
+no_fault : (v : Letter) (locked : Bool) → is_unlocked v locked ≡ false → call_fault v locked None ≡ None
+no_fault v locked has = ap (λ (b : Bool). cond {A = Option Fault} b (Some Unlocked) None) has
 
 -- why a request for a block is answered null
-why_null : (v : Letter) (n : ℕ) (locked : Bool) (arena : Grant) (raw : Ask) (l : Layout) (d : Decision) → Decides v n locked d
-    → FitsRequest l (malloc_request v n None d) arena raw → (decided v n arena raw l d).answer ≡ null
+why_null : (v : Letter) (n fill : ℕ) (locked : Bool) (arena : Grant) (raw : Ask) (l : Layout) (d : Decision) → Decides n (call_fault v locked None) d
+    → FitsRequest l (request_after v n d) arena raw → (new_block_turn v n fill arena raw l d).answer ≡ null
     → (max_size < n) ⊎ ((max_data < n) × (is_unlocked v locked ≡ false)) ⊎ (raw ≡ ask.Refused)
-why_null v n locked arena raw l too_great (over_all great) fits h = inl great
-why_null v n locked arena raw l too_great (over_data great has) fits h = inr (inl (great, has))
-why_null v n locked arena raw l lacks_lock bare fits h = absurd cc
-why_null v n locked arena raw l asks (within a b) fits h =
-    let home = housed l (request v n) arena raw in
-    inr (inr (no_home_refused l (request v n) arena raw (request_asks v n) fits (null_no_home v n home.home home.layout h)))
+why_null v n fill locked arena raw l too_great (over_all great) fits h = inl great
+why_null v n fill locked arena raw l too_great (over_data great none) fits h = inr (inl (great, has_lock v locked none))
+why_null v n fill locked arena raw l (faults _) (faulty found small some) fits h = absurd cc
+why_null v n fill locked arena raw l asks (within small none) fits h =
+    let room = room_for l (request v n) arena raw in
+    inr (inr (no_room_refused l (request v n) arena raw (request_asks v n) fits (null_no_room v n fill room.home room.layout h)))
 
-made_null : (s : State) (e : Entry) (v : Letter) (name : Name) (n : ℕ) (o : Option Block) → find s.blocks name ≡ o
-    → FitsRequest s.layout (malloc_request v n o (decision v n (is_owner s.owner e.track))) e.arena e.raw
-    → (made v n (is_owner s.owner e.track) e.arena e.raw s.layout o).answer ≡ null → IsNullMalloc s e v name n
-made_null s e v name n (Some block) is fits h = absurd cc
-made_null s e v name n None is fits h =
-    let locked = is_owner s.owner e.track in
-    record { free = is; why = why_null v n locked e.arena e.raw s.layout (decision v n locked) (decides v n locked) fits h }
-
-null_by : (tracks : List PlainTrack) (s : State) (e : Entry) (a : Action) → next_action tracks s e.track ≡ Some a
-    → FitsRequest s.layout (request_of s e.track a) e.arena e.raw → (effect s e.track a e.arena e.raw).1 ≡ null → IsNull tracks s e
-null_by tracks s e acquire is fits h = absurd (lock_null s (record s { owner = Some e.track }) (is_owner s.owner e.track) h)
-null_by tracks s e release is fits h = absurd (unlock_null s (record s { owner = None }) (is_owner s.owner e.track) h)
-null_by tracks s e (malloc v name n) is fits h = (v, name, n, is, made_null s e v name n (find s.blocks name) refl fits h)
-null_by tracks s e (free v name) is fits h = absurd (freed_null v s.layout (find s.blocks name) (is_unlocked v (is_owner s.owner e.track)) h)
-null_by tracks s e (poke name offset new) is fits h = absurd (poke_null offset new s.layout (find s.blocks name) h)
-null_by tracks s e (peek name offset count) is fits h = absurd (peek_null offset count s.layout (find s.blocks name) h)
-null_by tracks s e heap is fits h = absurd cc
-null_by tracks s e (refuse side k) is fits h = absurd cc
-null_by tracks s e other is fits h = absurd cc
-
--- the answers of an event that may come next fit what its operation asks for
-fits_action : (tracks : List PlainTrack) (s : State) (e : Entry) (a : Action) → IsNext tracks s e → next_action tracks s e.track ≡ Some a → FitsRequest s.layout (request_of s e.track a) e.arena e.raw
-fits_action tracks s e a next is = subst (λ (o : Option Action). FitsRequest s.layout (next_request s e.track o) e.arena e.raw) is next.fits
-
-pub null_for : (tracks : List PlainTrack) (s : State) (e : Entry) → IsNext tracks s e → (event tracks s e).1 ≡ null → IsNull tracks s e
-null_for tracks s e next h =
-    let w = waits s.owner e.track (next_action tracks s e.track) next.ready in
-    null_by tracks s e w.0 w.1 (fits_action tracks s e w.0 next w.1) (sym (reply_of tracks s e w.0 w.1) ∙ h)
+pub malloc_null : (h : Held) (e : Entry) (v : Letter) (name : Name) (n fill : ℕ) (o : Option Block) → find h.blocks name ≡ o
+    → FitsRequest h.layout (malloc_request v n (is_owner h.owner e.track) o) e.arena e.raw
+    → (malloc_turn v n fill (is_owner h.owner e.track) e.arena e.raw h.layout o).answer ≡ null → IsNullMalloc h e v name n
+malloc_null h e v name n fill (Some block) is fits null_is = absurd cc
+malloc_null h e v name n fill None is fits null_is =
+    let locked = is_owner h.owner e.track in
+    record { free = is; why = why_null v n fill locked e.arena e.raw h.layout (decision v n locked None) (decides v n locked None) fits null_is }
 
 -- ---- the other way
 
-too_great_null : (v : Letter) (n : ℕ) (arena : Grant) (raw : Ask) (l : Layout) (d : Decision) → d ≡ too_great → (decided v n arena raw l d).answer ≡ null
-too_great_null v n arena raw l d is = ap (λ (x : Decision). (decided v n arena raw l x).answer) is
+null_asked : (v : Letter) (n fill : ℕ) (arena : Grant) (raw : Ask) (l : Layout) → FitsRequest l (request v n) arena raw → raw ≡ ask.Refused → (new_block_turn v n fill arena raw l asks).answer ≡ null
+null_asked v n fill arena raw l fits is =
+    let layout = (room_for l (request v n) arena raw).layout in
+    ap (λ (home : Option Home). (new_block v n fill home layout).answer) (refused_no_room l (request v n) arena raw fits is)
 
-refused_null : (v : Letter) (n : ℕ) (arena : Grant) (raw : Ask) (l : Layout) (d : Decision) → raw ≡ ask.Refused
-    → FitsRequest l (malloc_request v n None d) arena raw → (decided v n arena raw l d).answer ≡ null
-refused_null v n arena raw l too_great is fits = refl
-refused_null v n arena raw l lacks_lock is fits = absurd (true≢false (ap raw_was_asked (sym is) ∙ fits.raw_asked))
-refused_null v n arena raw l asks is fits =
-    let layout = (housed l (request v n) arena raw).layout in
-    ap (λ (home : Option Home). (new_block v n home layout).answer) (refused_no_home l (request v n) arena raw fits is)
-
-great_is : (v : Letter) (n : ℕ) (locked : Bool) → max_size < n → decision v n locked ≡ too_great
-great_is v n locked great = ap (λ (b : Bool). cond b too_great (cond (is_unlocked v locked) lacks_lock (cond (nat_lt max_data n) too_great asks))) (lt-ltb max_size n great)
-
-greater_is : (v : Letter) (n : ℕ) (locked : Bool) → max_data < n → is_unlocked v locked ≡ false → decision v n locked ≡ too_great
-greater_is v n locked greater has =
-    (λ i. cond (nat_lt max_size n) too_great (cond (has i) lacks_lock (cond (lt-ltb max_data n greater i) too_great asks))) ∙ by (nat_lt max_size n)
-  where
-    by : (b : Bool) → cond b too_great too_great ≡ too_great
-    by true = refl
-    by false = refl
-
-decided_null : (v : Letter) (n : ℕ) (locked : Bool) (arena : Grant) (raw : Ask) (l : Layout) → FitsRequest l (malloc_request v n None (decision v n locked)) arena raw
-    → (max_size < n) ⊎ ((max_data < n) × (is_unlocked v locked ≡ false)) ⊎ (raw ≡ ask.Refused) → (decided v n arena raw l (decision v n locked)).answer ≡ null
-decided_null v n locked arena raw l fits why = elim why [
-  | inl great ↦ too_great_null v n arena raw l (decision v n locked) (great_is v n locked great)
+-- a fault, where the size is too great or the raw source refused, has come before either
+faulty_not : (v : Letter) (n : ℕ) (locked : Bool) (raw : Ask) (found : Fault) → n ≤ max_size → call_fault v locked None ≡ Some found → raw_was_asked raw ≡ false
+    → (max_size < n) ⊎ ((max_data < n) × (is_unlocked v locked ≡ false)) ⊎ (raw ≡ ask.Refused) → ⊥
+faulty_not v n locked raw found small some unasked why = elim why [
+  | inl great ↦ absurd (omega arith)
   | inr rest ↦
       elim rest [
-        | inl greater ↦ too_great_null v n arena raw l (decision v n locked) (greater_is v n locked greater.0 greater.1)
-        | inr refused ↦ refused_null v n arena raw l (decision v n locked) refused fits
+        | inl greater ↦ let none : None ≡ Some found = sym (no_fault v locked greater.1) ∙ some in absurd cc
+        | inr refused ↦ absurd (true≢false (ap raw_was_asked (sym refused) ∙ unasked))
       ]
 ]
 
-pub null_where : (tracks : List PlainTrack) (s : State) (e : Entry) → IsNext tracks s e → IsNull tracks s e → (event tracks s e).1 ≡ null
-null_where tracks s e next is =
-    let v = is.0 in
-    let name = is.1 in
-    let n = is.2 in
-    let locked = is_owner s.owner e.track in
-    let there = is.4.free in
-    let fits = fits_action tracks s e (malloc v name n) next is.3 in
-    let fits_free = subst (λ (o : Option Block). FitsRequest s.layout (malloc_request v n o (decision v n locked)) e.arena e.raw) there fits in
-    reply_of tracks s e (malloc v name n) is.3
-    ∙ ap (λ (o : Option Block). (made v n locked e.arena e.raw s.layout o).answer) there
-    ∙ decided_null v n locked e.arena e.raw s.layout fits_free is.4.why
+within_why : (n : ℕ) (v : Letter) (locked : Bool) (raw : Ask) → n ≤ max_data → (max_size < n) ⊎ ((max_data < n) × (is_unlocked v locked ≡ false)) ⊎ (raw ≡ ask.Refused) → raw ≡ ask.Refused
+within_why n v locked raw small why = elim why [
+  | inl great ↦ absurd (omega arith)
+  | inr rest ↦ elim rest [ inl greater ↦ absurd (omega (arith, greater.0)) | inr refused ↦ refused ]
+]
+
+pub null_decided : (v : Letter) (n fill : ℕ) (locked : Bool) (arena : Grant) (raw : Ask) (l : Layout) (d : Decision) → Decides n (call_fault v locked None) d
+    → FitsRequest l (request_after v n d) arena raw
+    → (max_size < n) ⊎ ((max_data < n) × (is_unlocked v locked ≡ false)) ⊎ (raw ≡ ask.Refused) → (new_block_turn v n fill arena raw l d).answer ≡ null
+null_decided v n fill locked arena raw l too_great (over_all great) fits why = refl
+null_decided v n fill locked arena raw l too_great (over_data great none) fits why = refl
+null_decided v n fill locked arena raw l (faults _) (faulty found small some) fits why = absurd (faulty_not v n locked raw found small some fits.raw_asked why)
+null_decided v n fill locked arena raw l asks (within small none) fits why = null_asked v n fill arena raw l fits (within_why n v locked raw small why)

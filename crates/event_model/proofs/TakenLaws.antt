@@ -9,11 +9,11 @@ use Rattle.layout_model.specs.Layout.{Layout, Usable, Used, Full}
 use Rattle.layout_model.specs.Place.{place_by, pools_of_class}
 use Rattle.layout_model.specs.Sizes.{capacity, class_of}
 use Rattle.layout_model.specs.Unplace.{find_class, find_pool, find_arena, is_last, lowered, without_pool, without_arena, put_arena, pool_back, arena_back_by, arena_back, unplace_used, unplace_by}
-use Rattle.event_model.specs.Effects.{State}
 use Rattle.event_model.specs.Events.{event}
 use Rattle.event_model.specs.History.{opening, state_after}
 use Rattle.event_model.specs.Laws.{FewAreTaken}
-use Rattle.event_model.proofs.LayoutLaws.{event_holds}
+use Rattle.event_model.specs.State.{State}
+use Rattle.event_model.proofs.EffectLaws.{event_holds}
 
 -- at most so many more arenas and pools than a layout has
 record HasAtMost (l : Layout) (more : ℕ) (now : Layout) : Type 0 where
@@ -74,15 +74,15 @@ unplace_most l k None =
 
 -- ---- events
 
-event_most : (tracks : List PlainTrack) (s : State) (e : Entry) → HasAtMost s.layout 1 (event tracks s e).0.layout
+event_most : (tracks : List PlainTrack) (s : State) (e : Entry) → HasAtMost s.held.layout 1 (event tracks s e).0.held.layout
 event_most tracks s e =
-    let l = s.layout in
+    let l = s.held.layout in
     event_holds (HasAtMost l 1) tracks s e
     (record { given = omega arith; full = omega arith })
     (λ m is small. place_most l (class_of m) e.arena (pools_of_class l (class_of m)) l.usable)
     (λ k. let most = unplace_most l k (get_or l.full k None) in record { given = omega (arith, most.given); full = omega (arith, most.full) })
 
-after_most : (tracks : List PlainTrack) (s : State) (es : List Entry) → HasAtMost s.layout (length es) (state_after tracks s es).layout
+after_most : (tracks : List PlainTrack) (s : State) (es : List Entry) → HasAtMost s.held.layout (length es) (state_after tracks s es).held.layout
 after_most tracks s [] = record { given = omega arith; full = omega arith }
 after_most tracks s (e ∷ es) =
     let one = event_most tracks s e in

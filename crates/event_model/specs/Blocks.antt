@@ -1,8 +1,7 @@
--- Blocks by name: a finite map, in the order in which the names came.
-use Rattle.std.specs.Prelude.{ℕ, if◌then◌else◌, List, [], ◌∷◌, sum_by, Option, Some, None}
-use Rattle.std.specs.Str.{bytes_eq}
-use Rattle.trace_model.specs.Plain.{Name}
+-- Blocks by name, and where each of them lies.
+use Rattle.std.specs.Prelude.{ℕ, sum_by}
 use Rattle.block_model.specs.Block.{Body, size_of}
+use Rattle.map_model.specs.Map.{Map}
 
 -- where a block lies: in the pool with that number, or in a raw region of its own
 pub data Home : Type 0 where
@@ -15,27 +14,7 @@ pub record Block : Type 0 where
   pub home : Home
 
 abbrev pub Blocks : Type 0
-Blocks = List (Name × Block)
-
--- what the name holds
-abbrev pub find : Blocks → Name → Option Block
-find [] name = None
-find (b ∷ bs) name = if bytes_eq b.0 name then Some b.1 else find bs name
-
--- the blocks, where the name holds this one
-abbrev pub put : Blocks → Name → Block → Blocks
-put [] name block = (name, block) ∷ []
-put (b ∷ bs) name block = if bytes_eq b.0 name then (name, block) ∷ bs else b ∷ put bs name block
-
--- the blocks, where the name holds none
-abbrev pub drop_name : Blocks → Name → Blocks
-drop_name [] name = []
-drop_name (b ∷ bs) name = if bytes_eq b.0 name then drop_name bs name else b ∷ drop_name bs name
-
--- the blocks, where the name holds this
-abbrev pub hold : Blocks → Name → Option Block → Blocks
-hold bs name None = drop_name bs name
-hold bs name (Some block) = put bs name block
+Blocks = Map Block
 
 -- how many bytes of data the blocks have together
 abbrev pub total_size : Blocks → ℕ

@@ -1,79 +1,162 @@
 -- Laws over histories.
-use Rattle.std.specs.Prelude.{◌≡◌, ◌↔◌, ◌⊎◌, ℕ, ◌+◌, ◌<◌, ◌≤◌, Bool, true, false, List, [], ◌∷◌, ◌++◌, length, Some, None}
+use Rattle.std.specs.Prelude.{◌≡◌, ◌≢◌, ◌↔◌, ◌⊎◌, ℕ, ◌+◌, ◌<◌, ◌≤◌, Bool, true, false, List, [], ◌∷◌, ◌++◌, length, Some, None, is_some}
 use Rattle.mem_base.specs.Plan.{Plan, IsPlanned}
 use Rattle.mem_base.specs.declared.history.Entry.{Entry}
 use Rattle.mem_base.specs.declared.history.Ask.TheVariants.{Refused}
 use Rattle.mem_base.specs.declared.trace.Letter.{Letter}
 use Rattle.mem_base.specs.declared.trace.Side.{Side}
-use Rattle.trace_model.specs.Plain.{Name, malloc, PlainTrack}
+use Rattle.mem_base.specs.Name.{Name}
+use Rattle.trace_model.specs.Plain.{Action, acquire, malloc, free, PlainTrack, name_of}
 use Rattle.trace_model.specs.Spelling.{action_count}
 use Rattle.layout_model.specs.Sound.{IsSound}
-use Rattle.event_model.specs.Blocks.{find}
-use Rattle.event_model.specs.Effects.{State, null, max_size, max_data, is_unlocked, is_owner}
-use Rattle.event_model.specs.Events.{event, left_in, next_action}
-use Rattle.event_model.specs.History.{IsNext, IsLegal, EndsInFault, last_state}
+use Rattle.map_model.specs.Map.{find}
+use Rattle.request_model.specs.Counts.{asked_in, asks_in, refusals_in}
+use Rattle.request_model.specs.Decision.{max_size, max_data, is_unlocked}
+use Rattle.block_model.specs.Block.{fresh, new_byte}
+use Rattle.event_model.specs.Blocks.{Home}
+use Rattle.event_model.specs.Events.{event, is_ready, left_in, next_action, ops_left}
+use Rattle.event_model.specs.History.{IsNext, IsLegal, IsDone, EndsInFault, last_state}
 use Rattle.event_model.specs.Plans.{GrowsBy, Heeds, is_planned, lists}
-use Rattle.event_model.specs.Requests.{asked_in, asks_in, refused_in, refusals_in}
+use Rattle.event_model.specs.Replies.{ok, null, is_fault}
+use Rattle.event_model.specs.State.{State, Held, is_owner}
 
+-- ---- one more entry
+
+-- a legal history with one more entry that may come next is legal
 abbrev pub OneMoreIsLegal : Type 0
-OneMoreIsLegal = (tracks : List PlainTrack) (es : List Entry) (e : Entry) → IsLegal tracks es → IsNext tracks (last_state tracks es) e → IsLegal tracks (es ++ e ∷ [])
+OneMoreIsLegal = (tracks : List PlainTrack) (es : List Entry) (e : Entry)
+    → IsLegal tracks es → IsNext tracks (last_state tracks es) e → IsLegal tracks (es ++ e ∷ [])
 
+-- it leads to that entry's event
 abbrev pub OneMoreState : Type 0
-OneMoreState = (tracks : List PlainTrack) (es : List Entry) (e : Entry) → last_state tracks (es ++ e ∷ []) ≡ (event tracks (last_state tracks es) e).0
+OneMoreState = (tracks : List PlainTrack) (es : List Entry) (e : Entry)
+    → last_state tracks (es ++ e ∷ []) ≡ (event tracks (last_state tracks es) e).0
 
--- each event leaves less to do
+-- it leaves less to do
 abbrev pub OneMoreLeavesLess : Type 0
-OneMoreLeavesLess = (tracks : List PlainTrack) (es : List Entry) (e : Entry) → IsNext tracks (last_state tracks es) e → left_in tracks (last_state tracks (es ++ e ∷ [])) < left_in tracks (last_state tracks es)
+OneMoreLeavesLess = (tracks : List PlainTrack) (es : List Entry) (e : Entry)
+    → IsNext tracks (last_state tracks es) e
+    → left_in tracks (last_state tracks (es ++ e ∷ [])) < left_in tracks (last_state tracks es)
+
+-- ---- faults, and lengths
+
+-- an event that is a fault leaves all as it was, but that a fault has come
+abbrev pub FaultsChangeNothing : Type 0
+FaultsChangeNothing = (tracks : List PlainTrack) (s : State) (e : Entry)
+    → is_fault (event tracks s e).1 ≡ true → (event tracks s e).0 ≡ record s { faulted = true }
+
+-- an event that is none brings none
+abbrev pub OthersBringNoFault : Type 0
+OthersBringNoFault = (tracks : List PlainTrack) (s : State) (e : Entry)
+    → is_fault (event tracks s e).1 ≡ false → (event tracks s e).0.faulted ≡ s.faulted
 
 -- a legal history in which a fault has come ends in it
 abbrev pub FaultIsLast : Type 0
-FaultIsLast = (tracks : List PlainTrack) (es : List Entry) → IsLegal tracks es → (last_state tracks es).faulted ≡ true → EndsInFault tracks es
+FaultIsLast = (tracks : List PlainTrack) (es : List Entry)
+    → IsLegal tracks es → (last_state tracks es).faulted ≡ true → EndsInFault tracks es
 
 -- a legal history has no more events than the tracks have operations, but for a fault
 abbrev pub LegalIsShort : Type 0
-LegalIsShort = (tracks : List PlainTrack) (es : List Entry) → IsLegal tracks es → length es ≤ action_count tracks + 1
+LegalIsShort = (tracks : List PlainTrack) (es : List Entry)
+    → IsLegal tracks es → length es ≤ action_count tracks + 1
 
--- one more entry adds its requests and its refusals
-abbrev pub OneMoreCounts : Type 0
-OneMoreCounts = (side : Side) (es : List Entry) (e : Entry)
-    → (asked_in side (es ++ e ∷ []) ≡ asked_in side es + asks_in side e) × (refused_in side (es ++ e ∷ []) ≡ refused_in side es + refusals_in side e)
+-- ---- names
 
--- no history has more requests than entries
-abbrev pub FewAreAsked : Type 0
-FewAreAsked = (side : Side) (es : List Entry) → asked_in side es ≤ length es
+-- an event leaves what a name holds, unless its operation is on the block of that name
+abbrev pub OtherNamesKeepTheirs : Type 0
+OtherNamesKeepTheirs = (tracks : List PlainTrack) (s : State) (e : Entry) (a : Action) (name : Name)
+    → next_action tracks s e.track ≡ Some a → name_of a ≢ Some name
+    → find (event tracks s e).0.held.blocks name ≡ find s.held.blocks name
 
--- a plan that grew by what a history's operations list, and then by what one more entry's operation lists, grew by what they all list
+-- an event that answers anything but ok leaves what each name holds
+abbrev pub OnlyOkChangesBlocks : Type 0
+OnlyOkChangesBlocks = (tracks : List PlainTrack) (s : State) (e : Entry) (name : Name)
+    → (event tracks s e).1 ≢ ok → find (event tracks s e).0.held.blocks name ≡ find s.held.blocks name
+
+-- a name into which malloc answers ok holds a new block of those bytes
+abbrev pub MallocGives : Type 0
+MallocGives = (tracks : List PlainTrack) (s : State) (e : Entry) (v : Letter) (name : Name) (n : ℕ)
+    → next_action tracks s e.track ≡ Some (malloc v name n) → (event tracks s e).1 ≡ ok
+    → (home : Home)
+    × (find (event tracks s e).0.held.blocks name ≡ Some (record { body = fresh v n new_byte; home = home }))
+
+-- a name of which free answers ok holds nothing
+abbrev pub FreeTakes : Type 0
+FreeTakes = (tracks : List PlainTrack) (s : State) (e : Entry) (v : Letter) (name : Name)
+    → next_action tracks s e.track ≡ Some (free v name) → (event tracks s e).1 ≡ ok
+    → find (event tracks s e).0.held.blocks name ≡ None
+
+-- ---- waiting
+
+-- a track with an operation left waits only to acquire the lock, while another track owns it
+abbrev pub OnlyAcquireWaits : Type 0
+OnlyAcquireWaits = (tracks : List PlainTrack) (s : State) (t : ℕ) (a : Action)
+    → next_action tracks s t ≡ Some a → is_ready tracks s t ≡ false
+    → (a ≡ acquire) × (u : ℕ) × (s.held.owner ≡ Some u) × (u ≢ t)
+
+-- the owner of the lock has an operation left
+abbrev pub OwnersGoOn : Type 0
+OwnersGoOn = (tracks : List PlainTrack) (es : List Entry) (t : ℕ)
+    → (last_state tracks es).held.owner ≡ Some t
+    → is_some (next_action tracks (last_state tracks es) t) ≡ true
+
+-- where no track is ready, no operation is left and no track owns the lock
+abbrev pub NoneReadyIsAllDone : Type 0
+NoneReadyIsAllDone = (tracks : List PlainTrack) (es : List Entry)
+    → IsDone tracks (last_state tracks es)
+    → (ops_left tracks (last_state tracks es).done ≡ 0) × ((last_state tracks es).held.owner ≡ None)
+
+-- ---- plans
+
+-- A plan that grew by what a history's operations list, and then by what one more entry's operation lists,
+-- grew by what they all list.
 abbrev pub OneMoreIsPlanned : Type 0
-OneMoreIsPlanned = (tracks : List PlainTrack) (side : Side) (asked : ℕ) (es : List Entry) (e : Entry) (before between now : Plan)
+OneMoreIsPlanned = (tracks : List PlainTrack) (side : Side) (asked : ℕ) (es : List Entry) (e : Entry)
+    → (before between now : Plan)
     → GrowsBy (is_planned tracks side asked es) before between
-    → GrowsBy (lists side (asked + asked_in side es) (next_action tracks (last_state tracks es) e.track)) between now
+    → GrowsBy (lists side (asked + asked_in side es) (next_action tracks (last_state tracks es) e.track))
+    between now
     → GrowsBy (is_planned tracks side asked (es ++ e ∷ [])) before now
 
--- a history heeds a plan that grew by numbers of requests that it did not come to, also with one more entry that heeds it
+-- A history heeds a plan that grew by numbers of requests that it did not come to, also with one more entry
+-- that heeds it.
 abbrev pub OneMoreHeeds : Type 0
-OneMoreHeeds = (side : Side) (asked : ℕ) (es : List Entry) (e : Entry) (more : ℕ → Bool) (before now : Plan)
-    → Heeds side before asked es → GrowsBy more before now → ((n : ℕ) → more n ≡ true → asked + asked_in side es < n)
+OneMoreHeeds = (side : Side) (asked : ℕ) (es : List Entry) (e : Entry) (more : ℕ → Bool)
+    → (before now : Plan)
+    → Heeds side before asked es → GrowsBy more before now
+    → ((n : ℕ) → more n ≡ true → asked + asked_in side es < n)
     → (asks_in side e ≡ 1 → IsPlanned now (asked + asked_in side es + 1) → refusals_in side e ≡ 1)
     → Heeds side now asked (es ++ e ∷ [])
 
--- why malloc answers null: the name is free, and the size is too great, or its data would be and the call has the lock, or the raw source refused
-pub record IsNullMalloc (s : State) (e : Entry) (v : Letter) (name : Name) (n : ℕ) : Type 0 where
-  pub free : find s.blocks name ≡ None
-  pub why : (max_size < n) ⊎ ((max_data < n) × (is_unlocked v (is_owner s.owner e.track) ≡ false)) ⊎ (e.raw ≡ Refused)
+-- ---- null
+
+-- Why malloc answers null: the name is free, and the size is too great, or it leaves no room for the hooks'
+-- bytes and the call has the lock that it needs, or the raw source refused.
+pub record IsNullMalloc (h : Held) (e : Entry) (v : Letter) (name : Name) (n : ℕ) : Type 0 where
+  pub free : find h.blocks name ≡ None
+  pub why : (max_size < n)
+      ⊎ ((max_data < n) × (is_unlocked v (is_owner h.owner e.track) ≡ false))
+      ⊎ (e.raw ≡ Refused)
 
 -- the next event is a malloc that answers null
 abbrev pub IsNull : List PlainTrack → State → Entry → Type 0
-IsNull tracks s e = (v : Letter) × (name : Name) × (n : ℕ) × (next_action tracks s e.track ≡ Some (malloc v name n)) × IsNullMalloc s e v name n
+IsNull tracks s e = (v : Letter) × (name : Name) × (n : ℕ)
+    × (next_action tracks s e.track ≡ Some (malloc v name n)) × IsNullMalloc s.held e v name n
 
--- an event answers null exactly where it is a malloc into a free name whose size is too great or whose request was refused
+-- an event answers null exactly where it is such a malloc
 abbrev pub NullExactly : Type 0
-NullExactly = (tracks : List PlainTrack) (s : State) (e : Entry) → IsNext tracks s e → ((event tracks s e).1 ≡ null) ↔ IsNull tracks s e
+NullExactly = (tracks : List PlainTrack) (s : State) (e : Entry)
+    → IsNext tracks s e → ((event tracks s e).1 ≡ null) ↔ IsNull tracks s e
+
+-- ---- layouts
 
 -- the layout of a legal history's last state is sound
 abbrev pub LegalIsSound : Type 0
-LegalIsSound = (tracks : List PlainTrack) (es : List Entry) → IsLegal tracks es → IsSound (last_state tracks es).layout
+LegalIsSound = (tracks : List PlainTrack) (es : List Entry)
+    → IsLegal tracks es → IsSound (last_state tracks es).held.layout
 
 -- no more arenas are granted and no more pools taken than there are events
 abbrev pub FewAreTaken : Type 0
 FewAreTaken = (tracks : List PlainTrack) (es : List Entry)
-    → ((last_state tracks es).layout.given ≤ length es) × (length (last_state tracks es).layout.full ≤ length es)
+    → ((last_state tracks es).held.layout.given ≤ length es)
+    × (length (last_state tracks es).held.layout.full ≤ length es)

@@ -3,6 +3,9 @@ pub mod Effects
 pub mod Events
 pub mod History
 pub mod Laws
+pub mod Lock
+pub mod Memory
 pub mod Plans
 pub mod Replies
-pub mod Requests
+pub mod Shape
+pub mod State

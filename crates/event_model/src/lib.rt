@@ -1,9 +1,34 @@
-//! What the operations of a trace do and answer, which of them ask a source for memory, which track
-//! is ready, and which histories are legal. The definitions stand in `specs/`, and here the laws over
-//! histories.
+//! What the operations of a trace do and answer, which track may go on, and which histories are
+//! legal. The definitions stand in `specs/`; the functions here are the laws over histories.
+//!
+//! Between two events a run has a state, of three parts that change for different reasons:
+//!
+//! | Part | Holds | Changes |
+//! |---|---|---|
+//! | `held` | the blocks by name, the layout of pools and arenas, the owner of the lock | by an operation |
+//! | `done` | how many operations each track has done | after each event that is no fault |
+//! | `faulted` | whether a fault has come | with the first fault, which is the last event |
+//!
+//! An event is the next operation of a track, with what the sources answered. It comes in three steps:
+//!
+//! 1. `effect` says what the operation does to `held` and answers. It sees nothing else, so no operation
+//!    can change `done` or `faulted`. An operation of a family works on that family's part alone:
+//!    - memory (`malloc`, `free`, `poke`, `peek`): the block of one name, and the layout. This is what
+//!      `_PyMem_DebugRawMalloc`, `_PyMem_DebugRawFree` and `_PyMem_DebugCheckAddress` do;
+//!    - the lock (`acquire`, `release`): its owner, as `take_gil` and `drop_gil` do;
+//!    - the heap's shape (`heap`): nothing, it reads what `_PyObject_DebugMallocStats` does;
+//!    - refusals (`refuse`): nothing, the plan of refusals takes down which requests it lists.
+//! 2. `settle` looks at the answer. A fault leaves all as it was, but that it has come: where the hooks
+//!    end the process, the run ends, and what they met can be told.
+//! 3. After any other answer `advance` counts the operation as done, and a track that has done its last
+//!    one lets go of the lock.
+//!
+//! An entry of a history may come next where no fault has come, its track is ready, and each source
+//! answered exactly where the operation asks it. A history is legal where each entry may come after
+//! those before it.
 #![tactic(auto)]
 
-ghost use Rattle.event_model.specs.Laws.{OneMoreIsLegal, OneMoreState, OneMoreLeavesLess, LegalIsShort, FaultIsLast, OneMoreCounts, FewAreAsked, OneMoreIsPlanned, OneMoreHeeds, NullExactly, LegalIsSound, FewAreTaken};
+ghost use Rattle.event_model.specs.Laws.{OneMoreIsLegal, OneMoreState, OneMoreLeavesLess, LegalIsShort, FaultsChangeNothing, OthersBringNoFault, FaultIsLast, OtherNamesKeepTheirs, OnlyOkChangesBlocks, MallocGives, FreeTakes, OnlyAcquireWaits, OwnersGoOn, NoneReadyIsAllDone, OneMoreIsPlanned, OneMoreHeeds, NullExactly, LegalIsSound, FewAreTaken};
 
 /// A legal history with one more entry that may come next is legal, leads to that entry's event, and
 /// leaves less to do.
@@ -18,15 +43,38 @@ pub fn legal_is_short()
     ensures { LegalIsShort }
 {}
 
+/// A fault changes nothing but that it has come, and no other event says that one has.
+pub fn faults_change_nothing()
+    ensures fault { FaultsChangeNothing }
+    ensures others { OthersBringNoFault }
+{}
+
 /// A fault is the last event of a legal history.
 pub fn fault_is_last()
     ensures { FaultIsLast }
 {}
 
-/// What one more entry adds to the requests of a history, and to those that it wants to be refused.
+/// An event leaves what all names hold but the one that its operation works on, and that one too where
+/// it answers anything but ok. Where malloc answers ok its name holds a new block, and where free does
+/// its name holds nothing.
+pub fn names_hold_what_they_got()
+    ensures others { OtherNamesKeepTheirs }
+    ensures only_ok { OnlyOkChangesBlocks }
+    ensures malloc { MallocGives }
+    ensures free { FreeTakes }
+{}
+
+/// A track waits only to acquire the lock, and the lock's owner always has an operation left, so no track
+/// waits for ever: where no track is ready, every operation of every track is done.
+pub fn nothing_waits_for_ever()
+    ensures waits { OnlyAcquireWaits }
+    ensures owners { OwnersGoOn }
+    ensures all { NoneReadyIsAllDone }
+{}
+
+/// What one more entry adds to the requests that a history wants to be refused, and to those that it
+/// heeds.
 pub fn one_more_request()
-    ensures counts { OneMoreCounts }
-    ensures few { FewAreAsked }
     ensures planned { OneMoreIsPlanned }
     ensures heeds { OneMoreHeeds }
 {}

@@ -1,8 +1,10 @@
-pub mod Tallies
-pub mod Lists
-pub mod Place
-pub mod Unplace
-pub mod Empty
-pub mod Sizes
-pub mod Asks
-pub mod Examples
+pub mod CallerLemmas
+mod Tallies
+mod Lists
+mod Place
+mod Unplace
+mod Empty
+mod Classes
+mod Geometry
+mod Asks
+mod Examples

@@ -10,7 +10,7 @@ use Rattle.extents.specs.Sums.{tally}
 use Rattle.extents.proofs.Lists.{tally-set, tally-append}
 use Rattle.layout_model.specs.Layout.{Layout, Usable, Used, Full}
 use Rattle.layout_model.specs.Sizes.{capacity}
-use Rattle.layout_model.specs.Sound.{one_if, dry_times, is_pool, has_arena, full_arena, full_times, is_arena, free_in, total_in, total_or, pool_times, pools_of, AreUsable, Lives, HasClass, HasTotal, IsSound}
+use Rattle.layout_model.specs.Sound.{one_if, dry_times, is_pool, has_arena, full_arena, full_times, is_arena, free_in, total_in, total_or, pool_times, pools_of, AreUsable, Lives, HasSomeClass, HasTotal, IsSound}
 use Rattle.layout_model.specs.Place.{place_used, place_new, new_arena, granted, place_by, place}
 use Rattle.layout_model.specs.Place.{pools_of_class}
 use Rattle.layout_model.specs.Asks.{is_empty, was_asked, HasPools, FitsClass}
@@ -63,7 +63,7 @@ last_one l c p ps small s e =
       classes = rw length-set s.classes;
       lives = lives_set l.used c ps inside s.lives live.2;
       usable = s.usable;
-      full = held_set HasClass l.full p.pool (Some f) s.full small known.0;
+      full = held_set HasSomeClass l.full p.pool (Some f) s.full small known.0;
       dry = s.dry;
       pools_once = λ k. let w = s.pools_once k in let t = times k in
           elim (eqb_tells k p.pool) [
@@ -121,7 +121,7 @@ granted_keeps l t low high s none =
 -- what a new pool in the list of its class changes
 record Opened (l : Layout) (c : ℕ) (n : ℕ) : Type 0 where
   lives : (d : ℕ) → d < 32 → Lives (capacity d) (get_or (set l.used c (record { pool = length l.full; arena = n; live = 1 } ∷ [])) d [])
-  full : (k : ℕ) → HasClass (get_or (l.full ++ None ∷ []) k None)
+  full : (k : ℕ) → HasSomeClass (get_or (l.full ++ None ∷ []) k None)
   pools_once : (k : ℕ) → pool_times k (set l.used c (record { pool = length l.full; arena = n; live = 1 } ∷ [])) + full_times (get_or (l.full ++ None ∷ []) k None) ≤ 1
   pools_known : (k : ℕ) → length (l.full ++ None ∷ []) ≤ k → pool_times k (set l.used c (record { pool = length l.full; arena = n; live = 1 } ∷ [])) ≡ 0
   pools : (a : ℕ) → tally (tally (has_arena a)) (set l.used c (record { pool = length l.full; arena = n; live = 1 } ∷ [])) + tally (full_arena a) (l.full ++ None ∷ []) ≡ pools_of a l + one_if (eqb n a)

@@ -6,7 +6,7 @@ use Rattle.extents.specs.Sums.{tally}
 use Rattle.extents.proofs.Lists.{tally-set, tally_length}
 use Rattle.layout_model.specs.Layout.{Layout, Usable, Used, Full}
 use Rattle.layout_model.specs.Sizes.{capacity}
-use Rattle.layout_model.specs.Sound.{one_if, dry_times, is_pool, has_arena, full_arena, full_times, is_arena, free_in, total_in, total_or, pool_times, pools_of, StartsAt, AreUsable, Lives, HasClass, HasTotal, IsSound}
+use Rattle.layout_model.specs.Sound.{one_if, dry_times, is_pool, has_arena, full_arena, full_times, is_arena, free_in, total_in, total_or, pool_times, pools_of, StartsAt, AreUsable, Lives, HasSomeClass, HasTotal, IsSound}
 use Rattle.layout_model.specs.Unplace.{find_pool, find_arena, find_class, lowered, without_pool, without_arena, put_arena, is_last, pool_back, arena_back_by, unplace_full, unplace_used, unplace_by, unplace}
 use Rattle.layout_model.proofs.Tallies.{swapped, lives_set, one_if_same, held_set, held_less}
 use Rattle.layout_model.proofs.Place.{many}
@@ -25,7 +25,7 @@ total_inside (x ∷ xs) (suc n) f e = let i = total_inside xs n f e in omega ari
 -- a block of a full pool
 unplace_full_keeps : (l : Layout) (k : ℕ) (f : Full) → IsSound l → get_or l.full k None ≡ Some f → IsSound (unplace_full l k f)
 unplace_full_keeps l k f s e =
-    let small : f.class < 32 = subst HasClass e (s.full k) in
+    let small : f.class < 32 = subst HasSomeClass e (s.full k) in
     let inside : f.class < length l.used = omega (arith, s.classes) in
     let within = full_inside l.full k f e in
     let ps : List Used = get_or l.used f.class [] in
@@ -39,7 +39,7 @@ unplace_full_keeps l k f s e =
       classes = rw length-set s.classes;
       lives = lives_set l.used f.class (q ∷ ps) inside s.lives (omega arith, omega arith, s.lives f.class small);
       usable = s.usable;
-      full = held_set HasClass l.full k None s.full tt within;
+      full = held_set HasSomeClass l.full k None s.full tt within;
       dry = s.dry;
       pools_once = λ j. let w = s.pools_once j in let t = times j in let h = held j in omega arith;
       pools_known = λ j h. let h2 : length l.full ≤ j = rw length-set at h in let w = s.pools_known j h2 in let t = times j in elim (eqb_tells k j) [ inl y ↦ absurd (omega arith) | inr y ↦ let t2 = rw y.0 at t in omega arith ];
@@ -79,7 +79,7 @@ record Lacks (n : ℕ) (l : Layout) : Type 0 where
   classes : length l.used ≡ 32
   lives : (c : ℕ) → c < 32 → Lives (capacity c) (get_or l.used c [])
   usable : AreUsable l.usable
-  full : (k : ℕ) → HasClass (get_or l.full k None)
+  full : (k : ℕ) → HasSomeClass (get_or l.full k None)
   dry : (a : ℕ) → HasTotal (get_or l.dry a None)
   pools_once : (k : ℕ) → pool_times k l.used + full_times (get_or l.full k None) ≤ 1
   pools_known : (k : ℕ) → length l.full ≤ k → pool_times k l.used ≡ 0

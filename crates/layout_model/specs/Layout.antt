@@ -1,5 +1,6 @@
 -- What a heap's pools and arenas hold.
 use Rattle.std.specs.Prelude.{ℕ, List, [], ◌∷◌, replicate, Option, None}
+use Rattle.layout_model.specs.declared.measures.TheConstants.{CLASSES}
 
 -- an arena with free pools
 pub record Usable : Type 0 where
@@ -35,4 +36,4 @@ pub record Layout : Type 0 where
 
 -- nothing is taken yet
 abbrev pub empty_layout : Layout
-empty_layout = record { usable = []; dry = None ∷ []; used = replicate 32 []; full = []; given = 0; back = 0; most = 0 }
+empty_layout = record { usable = []; dry = None ∷ []; used = replicate CLASSES []; full = []; given = 0; back = 0; most = 0 }

@@ -1,4 +1,5 @@
 pub mod Sizes
+pub mod Geometry
 pub mod Layout
 pub mod Place
 pub mod Unplace

@@ -1,7 +1,8 @@
 -- Where a small block comes from.
-use Rattle.std.specs.Prelude.{ℕ, ◌+◌, ◌-◌, max, ◌==◌, if◌then◌else◌, List, [], ◌∷◌, ◌++◌, length, get_or, set, Option, Some, None}
+use Rattle.std.specs.Prelude.{◌≡◌, ◌⊎◌, ℕ, ◌+◌, ◌-◌, max, ◌==◌, if◌then◌else◌, List, [], ◌∷◌, ◌++◌, length, get_or, set, Option, Some, None}
 use Rattle.mem_base.specs.declared.history.Grant.{Grant}
 use Rattle.mem_base.specs.declared.history.Grant.TheVariants.{NotAsked, Refused, Granted}
+use Rattle.extents.specs.Sums.{Has}
 use Rattle.layout_model.specs.Sizes.{capacity}
 use Rattle.layout_model.specs.Layout.{Layout, Usable, Used}
 
@@ -13,6 +14,15 @@ pub record Placed : Type 0 where
 -- the pools of a class with free blocks, in order
 abbrev pub pools_of_class : Layout → ℕ → List Used
 pools_of_class l c = get_or l.used c []
+
+-- p is a pool of class c: it has a free block and stands in the class's list, or it is full
+abbrev pub HasPool : Layout → ℕ → Used → Type 0
+HasPool l c p = Has p (pools_of_class l c)
+    ⊎ ((get_or l.full p.pool None ≡ Some (record { class = c; arena = p.arena })) × (p.live ≡ capacity c))
+
+-- pool k has class c
+abbrev pub HasClass : Layout → ℕ → ℕ → Type 0
+HasClass l k c = (p : Used) × ((p.pool ≡ k) × HasPool l c p)
 
 -- one more block of the class's first pool, which joins the full ones with its last block
 abbrev pub place_used : Layout → ℕ → Used → List Used → Layout

@@ -1,6 +1,7 @@
 -- What is true of every layout that a heap can have.
 use Rattle.std.specs.Prelude.{◌≡◌, ℕ, ◌+◌, ◌<◌, ◌≤◌, ◌==◌, Bool, if◌then◌else◌, List, [], ◌∷◌, length, get_or, Option, Some, None}
 use Rattle.extents.specs.Sums.{tally}
+use Rattle.layout_model.specs.declared.measures.TheConstants.{CLASSES}
 use Rattle.layout_model.specs.Sizes.{capacity}
 use Rattle.layout_model.specs.Layout.{Layout, Usable, Used, Full}
 use Rattle.layout_model.specs.Place.{pools_of_class}
@@ -72,9 +73,9 @@ abbrev pub Lives : ℕ → List Used → Type 0
 Lives n [] = Unit {0}
 Lives n (p ∷ ps) = (1 ≤ p.live) × (p.live < n) × Lives n ps
 
-abbrev pub HasClass : Option Full → Type 0
-HasClass None = Unit {0}
-HasClass (Some f) = f.class < 32
+abbrev pub HasSomeClass : Option Full → Type 0
+HasSomeClass None = Unit {0}
+HasSomeClass (Some f) = f.class < CLASSES
 
 abbrev pub HasTotal : Option ℕ → Type 0
 HasTotal None = Unit {0}
@@ -83,10 +84,10 @@ HasTotal (Some total) = (63 ≤ total) × (total ≤ 64)
 -- Numbers of pools and arenas are distinct and in range, and each arena's free pools and pools in use are all its pools.
 -- So the arena of each pool in use is out.
 pub record IsSound (l : Layout) : Type 0 where
-  pub classes : length l.used ≡ 32
-  pub lives : (c : ℕ) → c < 32 → Lives (capacity c) (pools_of_class l c)
+  pub classes : length l.used ≡ CLASSES
+  pub lives : (c : ℕ) → c < CLASSES → Lives (capacity c) (pools_of_class l c)
   pub usable : AreUsable l.usable
-  pub full : (k : ℕ) → HasClass (get_or l.full k None)
+  pub full : (k : ℕ) → HasSomeClass (get_or l.full k None)
   pub dry : (a : ℕ) → HasTotal (get_or l.dry a None)
   pub pools_once : (k : ℕ) → pool_times k l.used + full_times (get_or l.full k None) ≤ 1
   pub pools_known : (k : ℕ) → length l.full ≤ k → pool_times k l.used ≡ 0

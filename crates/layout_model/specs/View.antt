@@ -6,6 +6,7 @@ use Rattle.mem_base.specs.declared.reply.UsedPool.{UsedPool}
 use Rattle.mem_base.specs.declared.reply.ClassLine.{ClassLine}
 use Rattle.mem_base.specs.declared.reply.View.{View}
 use Rattle.extents.specs.Sums.{tally}
+use Rattle.layout_model.specs.declared.measures.TheConstants.{CLASSES}
 use Rattle.layout_model.specs.Sizes.{size_of_class}
 use Rattle.layout_model.specs.Layout.{Layout, Usable, Used, Full}
 use Rattle.layout_model.specs.Place.{pools_of_class}
@@ -33,7 +34,7 @@ has_a_pool line = not ((length line.used == 0) && (line.full == 0))
 
 -- the classes that have a pool, by rising sizes
 abbrev pub class_lines : Layout → List ClassLine
-class_lines l = filter has_a_pool (map (class_line l) (range_with_len 0 32))
+class_lines l = filter has_a_pool (map (class_line l) (range_with_len 0 CLASSES))
 
 -- so many blocks in pools and in raw regions, the usable arenas in order, and the classes
 abbrev pub shape_of : ℕ → ℕ → Layout → View

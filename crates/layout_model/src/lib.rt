@@ -8,7 +8,10 @@
 //! The definitions in `specs/` say this in the words that the crates above cite.
 #![tactic(auto)]
 
+pub mod measures;
+
 ghost use Rattle.layout_model.specs.Sizes.{ClassesAreLeast, PoolsHold};
+ghost use Rattle.layout_model.specs.Geometry.{AddressTellsSlot, PoolsAreInArenas};
 ghost use Rattle.layout_model.specs.Layout.{empty_layout};
 ghost use Rattle.layout_model.specs.Sound.{IsSound};
 ghost use Rattle.layout_model.specs.Laws.{PlaceKeepsSound, UnplaceKeepsSound, OnlyRefusalsPlaceNothing, RequestsFitTheirClass};
@@ -22,6 +25,16 @@ pub fn classes_are_least()
 /// How many blocks a pool holds, for blocks of nine sizes.
 pub fn pools_hold()
     ensures { PoolsHold }
+{}
+
+/// Pools begin at multiples of their size, and all of a pool is in its arena.
+pub fn pools_are_in_arenas()
+    ensures { PoolsAreInArenas }
+{}
+
+/// An address and the arena's base tell which of the arena's pools has the address.
+pub fn address_tells_slot()
+    ensures { AddressTellsSlot }
 {}
 
 /// A heap that holds nothing has a sound layout.

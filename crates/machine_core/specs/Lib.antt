@@ -1,6 +1,6 @@
 pub mod Acts
-pub mod Reply
-pub mod Slots
+pub mod Held
+pub mod Ready
 pub mod Spots
 pub mod Stands
 pub mod View

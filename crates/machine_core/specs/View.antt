@@ -5,18 +5,19 @@ use Rattle.mem_base.specs.declared.reply.Step.{Step}
 use Rattle.mem_base.specs.declared.trace.Side.{Side}
 use Rattle.mem_base.specs.declared.trace.Trace.{Trace}
 use Rattle.trace_model.specs.Plain.{PlainTrack, plain}
-use Rattle.event_model.specs.Effects.{State}
 use Rattle.event_model.specs.Events.{event, next_action}
 use Rattle.event_model.specs.History.{last_state, IsNext}
 use Rattle.event_model.specs.Plans.{GrowsBy, lists}
 use Rattle.event_model.specs.Replies.{plain_reply}
-use Rattle.event_model.specs.Requests.{asks_in, refusals_in}
+use Rattle.event_model.specs.State.{State}
+use Rattle.request_model.specs.Counts.{asks_in, refusals_in}
 use Rattle.raw_region.specs.Region.{PieceView}
 use Rattle.extents.specs.Extent.{Extent}
 use Rattle.sources.specs.Holder.{Answered, Traded}
 use Rattle.sources.specs.Source.{SourceView}
 
--- a machine: its trace, its stored history, the arenas and the raw regions that it holds, and by the number of its name the memory of each block
+-- a machine: its trace, its stored history, the arenas and the raw regions that it holds, and by the number of
+-- its name the memory of each block
 pub record MachineView : Type 0 where
   pub trace : Trace
   pub entries : List Entry
@@ -37,11 +38,16 @@ pub record IsEvent (trace : Trace) (old new : List Entry) (t : ℕ) (step : Step
   pub track : step.entry.track ≡ t
   pub next : IsNext (plain trace).tracks (last_state (plain trace).tracks old) step.entry
   pub grows : new ≡ old ++ step.entry ∷ []
-  pub reply : plain_reply step.reply ≡ (event (plain trace).tracks (last_state (plain trace).tracks old) step.entry).1
+  pub reply : plain_reply trace.texts step.reply
+      ≡ (event (plain trace).tracks (last_state (plain trace).tracks old) step.entry).1
 
 module _ {S : Type 0} where
-  -- what the source of a side answered in the event of an entry: its counts say so, its plan grew by what the operation lists, and regions came or went
-  pub record Requests (side : Side) (trace : Trace) (entries : List Entry) (e : Entry) (held held_then : List Extent) (old new : SourceView S) : Type 0 where
+  -- what the source of a side answered in the event of an entry: its counts say so, its plan grew by what the
+  -- operation lists, and regions came or went
+  pub record Requests (side : Side) (trace : Trace) (entries : List Entry) (e : Entry)
+      (held held_then : List Extent) (old new : SourceView S) : Type 0 where
     pub answered : Answered (asks_in side e) (refusals_in side e) old new
-    pub plan : GrowsBy (lists side old.asked (next_action (plain trace).tracks (last_state (plain trace).tracks entries) e.track)) old.plan new.plan
+    pub plan : GrowsBy
+        (lists side old.asked (next_action (plain trace).tracks (last_state (plain trace).tracks entries) e.track))
+        old.plan new.plan
     pub traded : Traded held held_then old new

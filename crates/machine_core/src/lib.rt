@@ -1,16 +1,28 @@
 //! The machine: a trace that is replayed one event at a time, with the history that it makes.
 //!
-//! Names are looked up while the trace is read and never again: each block has a slot with the number
-//! of its name, and lies in memory that its domain lent. An event first does all that can fail (room
-//! for its entry, the reply, and last a request to a source) and then makes its change, which cannot
-//! fail; so an event that finds no memory leaves the machine as it was.
+//! A machine has the shape of the state that the definitions of an event speak of. What they hold by
+//! name it holds by number, since names are looked up while the trace is read and never again:
+//!
+//! ```text
+//!     definitions                                   machine
+//!     held     blocks by name, layout    <------    held     store: a slot for each name's number
+//!              owner of the lock                             owner of the lock
+//!     done     operations done by track  <------    done
+//!     faulted  whether a fault has come  <------    faulted
+//!     history  the events so far         <------    history
+//! ```
+//!
+//! What always holds: the history is legal, and these fields stand for the state that it leads to.
+//!
+//! An event first does all that can fail, and then makes its change, which cannot fail: its entry is
+//! kept, then the reply takes the memory that it needs, and last of all a source is asked. So an event
+//! that finds no memory leaves the machine as it was. An operation is done in `Held`: `quiet` has those
+//! that ask no source, `asking` all others.
 #![tactic(auto)]
 
-mod act;
+mod held;
 mod machine;
-mod spot;
-mod step;
-mod store;
+mod schedule;
 
+pub use block_store::Spot;
 pub use machine::Machine;
-pub use spot::Spot;

@@ -1,21 +1,19 @@
 ghost use Rattle.std.specs.Prelude.{◌≡◌, ◌<◌, ◌^◌, ℕ, true, false, [], length, replicate, IfOk, IfSome, IfNone, OnErr};
 
-use crate::Spot;
-use crate::spot::spots_of;
-use crate::step::{first_ready_at, is_ready_at, step};
-use crate::store::{Store, totals_of};
-use mem_base::{History, List, Step, Texts, Totals, Trace, TrackId};
+use crate::held::Held;
+use crate::schedule::{first_ready_at, is_ready_at, next_op, settle};
+use block_store::{Answer, Spot, Store};
+use mem_base::{Ask, Entry, Grant, History, List, Step, Texts, Totals, Trace, TrackId};
 use sources::{ArenaSource, RawSource};
 use std::alloc::{AllocError, Global};
-use std::marker::Model;
+use std::marker::{Model, Send};
 
 /// A trace that is replayed event by event. It must be spent by `end`.
 pub struct Machine {
     alloc: Global,
     trace: Trace,
     history: History,
-    store: Store,
-    owner: Option<TrackId>,
+    held: Held,
     done: Vec<u32>,
     faulted: bool,
 }
@@ -29,21 +27,20 @@ fn no_ops_done(alloc: Global, count: usize) -> Result<Vec<u32>, AllocError>
 
 impl Model for Machine {
     ghost use Rattle.machine_core.specs.View.{MachineView};
-    ghost use Rattle.machine_core.specs.Slots.{pieces_of};
 
     ghost Value = { MachineView };
 
-    ghost use Rattle.machine_core.specs.Stands.{IsMachine};
+    ghost use Rattle.machine_core.specs.Stands.{Stands};
 
     ghost view = { λ a. record {
       trace = a.trace;
       entries = a.history.entries;
-      arenas = a.store.domains.heap.regions;
-      raws = a.store.domains.raws;
-      pieces = pieces_of a.store.slots.items;
+      arenas = a.held.store.arenas;
+      raws = a.held.store.raws;
+      pieces = a.held.store.pieces;
     } };
 
-    ghost invariant = { λ a. IsMachine a.trace a.history.entries a.store.slots.items a.store.domains a.owner a.done.items a.faulted };
+    ghost invariant = { λ a. Stands a.trace a.history.entries a.held a.done.items a.faulted };
 }
 
 impl Machine {
@@ -53,8 +50,9 @@ impl Machine {
     ghost use Rattle.mem_base.specs.declared.trace.Side.TheVariants as sides;
     ghost use Rattle.sources.specs.Holder.{Traded};
     ghost use Rattle.domain_api.specs.Held.{AreAskedNothing, AreOut};
-    ghost use Rattle.machine_core.specs.Acts.{Fails};
-    ghost use Rattle.machine_core.specs.Spots.{AreSpots};
+    ghost use Rattle.block_store.specs.Sources.{Fails, FailsUnrefused, IsPassedOn};
+    ghost use Rattle.block_store.specs.Spots.{AreSpots};
+    ghost use Rattle.machine_core.specs.Spots.{living_in};
     ghost use Rattle.machine_core.specs.View.{tracks_of, state_of, IsEvent, Requests};
 
     /// A machine at the start of a trace. The error is want of memory, and the trace is gone.
@@ -73,8 +71,7 @@ impl Machine {
             history: History {
                 entries: List::new(alloc),
             },
-            store,
-            owner: None,
+            held: Held { store, owner: None },
             done,
             faulted: false,
         })
@@ -114,25 +111,26 @@ impl Machine {
     pub fn totals(&self) -> Totals
         ensures { result ≡ totals_of (tracks_of self.now) self.now.entries }
     {
-        let blocks = totals_of(self.store.slots.as_slice());
+        let blocks = self.held.store.totals();
         Totals {
             events: self.history.entries.len() as u64,
-            owner: self.owner,
+            owner: self.held.owner,
             blocks: blocks.blocks,
             bytes: blocks.bytes,
-            counts: self.store.counts(),
+            counts: self.held.store.counts(),
             traced: 0,
             peak: 0,
         }
     }
 
-    /// Where the live blocks lie, in the order of the numbers of their names.
+    /// Where the live blocks lie, in the order of the numbers of their names. The error is want of
+    /// memory.
     pub fn places(&self) -> Result<List<Spot>, AllocError>
-        ensures { IfOk result (AreSpots self.now) }
+        ensures { IfOk result (AreSpots (living_in self.now)) }
     {
         // The table of texts says that each number fits.
         let _count = self.trace.texts.len();
-        spots_of(self.alloc, self.store.slots.as_slice())
+        self.held.store.spots(self.alloc)
     }
 
     /// Gives up all blocks and hands the history back. All regions go back to their source.
@@ -147,11 +145,11 @@ impl Machine {
             alloc: _,
             trace: _,
             history,
-            store,
-            owner: _,
+            held,
             done: _,
             faulted: _,
         } = self;
+        let Held { store, owner: _ } = held;
         store.end(arenas, raws);
         history
     }
@@ -161,20 +159,22 @@ impl Machine {
         requires { t < length self.now.trace.tracks }
         ensures { result ≡ is_ready (tracks_of self.now) (state_of self.now) t }
     {
-        is_ready_at(&self.trace, self.owner, self.done.as_slice(), t)
+        is_ready_at(&self.trace, self.held.owner, self.done.as_slice(), t)
     }
 
     /// The first track that is ready.
     pub fn first_ready(&self) -> Option<TrackId>
         ensures first { IfSome result (λ t. is_ready (tracks_of self.now) (state_of self.now) t ≡ true) }
-        ensures before { IfSome result (λ t. (u : ℕ) → u < t → is_ready (tracks_of self.now) (state_of self.now) u ≡ false) }
+        ensures before { IfSome result (λ t. (u : ℕ)
+            → u < t → is_ready (tracks_of self.now) (state_of self.now) u ≡ false) }
         ensures none { IfNone result (IsDone (tracks_of self.now) (state_of self.now)) }
     {
-        first_ready_at(&self.trace, self.owner, self.done.as_slice())
+        first_ready_at(&self.trace, self.held.owner, self.done.as_slice())
     }
 
-    /// Does the next event of a track that is ready. Where memory runs out, the machine is as it was,
-    /// and all that a source granted has gone back to it.
+    /// Does the next event of a track that is ready. The error is want of memory: then the machine is as
+    /// it was, all that a source granted has gone back to it, and no refusal is told as want of memory:
+    /// the raw source has refused nothing more, and the arena source at most the one request of the event.
     pub fn step<A: ArenaSource, R: RawSource>(
         &mut self,
         t: TrackId,
@@ -188,26 +188,58 @@ impl Machine {
         requires held { AreOut self.old.arenas self.old.raws (A.seen arenas.old) (R.seen raws.old) }
         ensures trace { self.new.trace ≡ self.old.trace }
         ensures step { IfOk result (λ step. IsEvent self.old.trace self.old.entries self.new.entries t step) }
-        ensures asks_arena { IfOk result (λ step. Requests sides.Arena self.old.trace self.old.entries step.entry
+        ensures asks_arena { IfOk result (λ step.
+            Requests sides.Arena self.old.trace self.old.entries step.entry
             self.old.arenas self.new.arenas (A.seen arenas.old) (A.seen arenas.new)) }
         ensures asks_raw { IfOk result (λ step. Requests sides.Raw self.old.trace self.old.entries step.entry
             self.old.raws self.new.raws (R.seen raws.old) (R.seen raws.new)) }
         ensures err { OnErr result (self.new ≡ self.old) }
         ensures fails_arena { OnErr result (Fails self.old.arenas (A.seen arenas.old) (A.seen arenas.new)) }
-        ensures fails_raw { OnErr result (Fails self.old.raws (R.seen raws.old) (R.seen raws.new)) }
+        ensures fails_raw { OnErr result (FailsUnrefused self.old.raws (R.seen raws.old) (R.seen raws.new)) }
+        ensures passed { OnErr result
+            (IsPassedOn (A.seen arenas.old) (A.seen arenas.new) (R.seen raws.old) (R.seen raws.new)) }
         ensures held { AreOut self.new.arenas self.new.raws (A.seen arenas.new) (R.seen raws.new) }
     {
-        step(
-            self.alloc,
-            &self.trace,
-            &mut self.history,
-            &mut self.store,
-            &mut self.owner,
-            &mut self.done,
-            &mut self.faulted,
-            t,
-            arenas,
-            raws,
-        )
+        let at = self.done[t as usize];
+        let Some(op) = next_op(&self.trace, t, at) else {
+            unreachable!()
+        };
+        self.history.entries.push(quiet_entry(t, at))?;
+        match self.held.act(self.alloc, t, op, arenas, raws) {
+            Ok(Answer { reply, asked }) => {
+                let entry = Entry {
+                    arena: asked.arena,
+                    raw: asked.raw,
+                    ..quiet_entry(t, at)
+                };
+                self.history.entries.set_last(entry);
+                self.faulted = settle(&self.trace, &mut self.held.owner, &mut self.done, t, &reply);
+                Ok(Step { entry, reply })
+            }
+            Err(error) => {
+                // The entry that was kept for the event goes again.
+                let _entry = self.history.entries.pop();
+                Err(error)
+            }
+        }
     }
+}
+
+// The entry of an event in which no source was asked.
+fn quiet_entry(t: TrackId, at: u32) -> Entry
+    ensures { result ≡ record { track = t; at = at; arena = Grant.NotAsked; raw = Ask.NotAsked } }
+{
+    Entry {
+        track: t,
+        at,
+        arena: Grant::NotAsked,
+        raw: Ask::NotAsked,
+    }
+}
+
+fn crosses<T: Send>(_value: &T) {}
+
+// A machine is `Send`, since `crosses` takes no other.
+pub(crate) fn machines_cross(machine: &Machine) {
+    crosses(machine);
 }

@@ -8,7 +8,7 @@ use Rattle.std.specs.Str.{bytes_eq}
 use Rattle.std.proofs.lemmas.List.Quantifiers.{position-Some}
 use Rattle.std.proofs.lemmas.Option.{slice_get-get_or, slice_get-map}
 use Rattle.std.proofs.lemmas.Slice.Eq.{bytes_eq-Decides}
-use Rattle.mem_base.specs.Texts.{texts_of, interned, IsDistinct, IsTable, unknown}
+use Rattle.mem_base.specs.Texts.{texts_of, with_text, IsDistinct, IsTable, unknown}
 
 abbrev test : List ℕ → Vec ℕ → Bool
 test t v = bytes_eq t v.items
@@ -25,14 +25,14 @@ any_map : (t : List ℕ) (keys : List (Vec ℕ)) → list_any (bytes_eq t) (text
 any_map t [] = refl
 any_map t (k ∷ ks) = ap (λ (b : Bool). bytes_eq t k.items || b) (any_map t ks)
 
-pub found_stays : (t : List ℕ) (keys : List (Vec ℕ)) → true ≡ list_any (test t) keys → texts_of keys ≡ interned (texts_of keys) t
+pub found_stays : (t : List ℕ) (keys : List (Vec ℕ)) → true ≡ list_any (test t) keys → texts_of keys ≡ with_text (texts_of keys) t
 found_stays t keys h = ap (λ (b : Bool). cond b (texts_of keys) (texts_of keys ++ t ∷ [])) (h ∙ sym (any_map t keys))
 
 texts_of-push : (keys : List (Vec ℕ)) (v : Vec ℕ) → texts_of (keys ++ v ∷ []) ≡ texts_of keys ++ v.items ∷ []
 texts_of-push [] v = refl
 texts_of-push (k ∷ ks) v = ap (λ (ts : List (List ℕ)). k.items ∷ ts) (texts_of-push ks v)
 
-pub new_goes_last : (t : List ℕ) (keys news : List (Vec ℕ)) (v : Vec ℕ) → v.items ≡ t → false ≡ list_any (test t) keys → news ≡ cond (list_any (test v.items) keys) keys (keys ++ v ∷ []) → texts_of news ≡ interned (texts_of keys) t
+pub new_goes_last : (t : List ℕ) (keys news : List (Vec ℕ)) (v : Vec ℕ) → v.items ≡ t → false ≡ list_any (test t) keys → news ≡ cond (list_any (test v.items) keys) keys (keys ++ v ∷ []) → texts_of news ≡ with_text (texts_of keys) t
 new_goes_last t keys news v is h at =
     let none : list_any (test v.items) keys ≡ false = ap (λ (x : List ℕ). list_any (test x) keys) is ∙ sym h in
     let last : news ≡ keys ++ v ∷ [] = at ∙ ap (λ (b : Bool). cond b keys (keys ++ v ∷ [])) none in
@@ -68,7 +68,7 @@ first_stays : (ts : List (List ℕ)) (t : List ℕ) → slice_get ts 0 ≡ Some 
 first_stays [] t h = absurd cc
 first_stays (x ∷ xs) t h = h
 
-pub interned_table : (ts : List (List ℕ)) (t : List ℕ) → length ts < 2 ^ 32 - 1 → IsTable ts → IsTable (interned ts t)
+pub interned_table : (ts : List (List ℕ)) (t : List ℕ) → length ts < 2 ^ 32 - 1 → IsTable ts → IsTable (with_text ts t)
 interned_table ts t few h = by (list_any (bytes_eq t) ts) refl
   where
     by : (b : Bool) → list_any (bytes_eq t) ts ≡ b → IsTable (cond b ts (ts ++ t ∷ []))

@@ -1,3 +1,5 @@
 pub mod Letter
+pub mod Name
+pub mod Offset
 pub mod Plan
 pub mod Texts

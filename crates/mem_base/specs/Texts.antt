@@ -1,4 +1,4 @@
--- A table of texts: each text has one number, and the first is the unknown one.
+-- A table of texts: each text has one number, which is its index, and the first is the unknown one.
 use Rattle.std.specs.Prelude.{◌≡◌, ℕ, List, [], ◌∷◌, ◌++◌, ◌<◌, ◌^◌, map, length, slice_get, codes, Some, if◌then◌else◌}
 use Rattle.std.specs.List.{list_any}
 use Rattle.std.specs.Str.{bytes_eq}
@@ -17,8 +17,8 @@ abbrev pub unknown : List ℕ
 unknown = codes "<unknown>"
 
 -- the table after a text is sought or added
-abbrev pub interned : List (List ℕ) → List ℕ → List (List ℕ)
-interned texts text = if list_any (bytes_eq text) texts then texts else texts ++ text ∷ []
+abbrev pub with_text : List (List ℕ) → List ℕ → List (List ℕ)
+with_text texts text = if list_any (bytes_eq text) texts then texts else texts ++ text ∷ []
 
 -- the unknown text stands first, no text stands twice, and each number fits
 pub record IsTable (texts : List (List ℕ)) : Type 0 where

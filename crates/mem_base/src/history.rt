@@ -1,3 +1,5 @@
+//! What happened in a run: which operations were done, and what the sources answered to each.
+
 use crate::{List, TrackId};
 
 /// What the arena source answered in an event. The number is that of the arena's pools.
@@ -16,7 +18,7 @@ pub enum Ask {
     Granted,
 }
 
-/// One event that was done: its track, the operation's place in the track from 0, and what the
+/// One event that was done: its track, the operation's index in the track from 0, and what the
 /// sources answered.
 #[derive(Clone, Copy, Debug, PartialEq, Eq)]
 pub struct Entry {

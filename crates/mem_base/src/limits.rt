@@ -1,4 +1,7 @@
-//! The limits of inputs and runs. `docs/GUIDE.md` lists them for users.
+//! The limits of inputs and runs, which are this project's own. `docs/GUIDE.md` lists them for users.
+//! Each stands here once; code and specs cite the constant, and [`limits_are_these`] says its number,
+//! so that no limit can change unseen.
+ghost use Rattle.std.specs.Prelude.{◌≡◌};
 
 /// The greatest size of one request in bytes: the greatest number of the C type `Py_ssize_t`.
 pub const MAX_SIZE: u64 = 9_223_372_036_854_775_807;
@@ -72,3 +75,31 @@ pub const MAX_REFUSALS: usize = 1000;
 
 /// The most rounds of a generated trace.
 pub const MAX_ROUNDS: u32 = 200_000;
+
+/// The numbers of all limits.
+pub fn limits_are_these()
+    ensures size { MAX_SIZE ≡ 9223372036854775807 }
+    ensures hooks { HOOK_BYTES ≡ 24 }
+    ensures input { MAX_INPUT ≡ 16777216 }
+    ensures tracks { MAX_TRACKS ≡ 64 }
+    ensures ops { MAX_OPS ≡ 262144 }
+    ensures picks { MAX_PICKS ≡ 4194304 }
+    ensures name { MAX_NAME ≡ 32 }
+    ensures file { MAX_FILE ≡ 255 }
+    ensures reach { MAX_REACH ≡ 1024 }
+    ensures frames { MAX_FRAMES ≡ 256 }
+    ensures line { MAX_LINE ≡ 2147483647 }
+    ensures frame_limit { MAX_FRAME_LIMIT ≡ 65535 }
+    ensures snapshots { MAX_SNAPSHOTS ≡ 16 }
+    ensures rules { MAX_RULES ≡ 16 }
+    ensures reports { MAX_REPORTS ≡ 1024 }
+    ensures lines { MAX_LINES ≡ 1000000 }
+    ensures dump_rows { MAX_DUMP_ROWS ≡ 262144 }
+    ensures arenas { MAX_ARENAS ≡ 1024 }
+    ensures default_arenas { DEFAULT_ARENAS ≡ 256 }
+    ensures raw_bytes { MAX_RAW_BYTES ≡ 268435456 }
+    ensures skew { MAX_SKEW ≡ 255 }
+    ensures refusal { MAX_REFUSAL ≡ 1000000 }
+    ensures refusals { MAX_REFUSALS ≡ 1000 }
+    ensures rounds { MAX_ROUNDS ≡ 200000 }
+{}

@@ -1,3 +1,5 @@
+//! What operations answer, and the numbers of a run's summary.
+
 use crate::{Entry, List, TextId, TrackId};
 
 /// What a check of a call or a block finds.

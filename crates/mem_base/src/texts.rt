@@ -1,3 +1,7 @@
+//! A table that gives each text one number, as CPython interns the file names of tracebacks in
+//! `tracemalloc_filenames`. A number is the index at which the text came, so numbers stay as the table
+//! grows. The unknown text, which stands for the file where there is no frame, is number 0.
+
 ghost use Rattle.std.specs.Prelude.{◌≡◌, ℕ, ◌<◌, ◌≤◌, ◌-◌, ◌^◌, ◌++◌, ◌∷◌, [], length, slice_get, IfOk, OnErr, OnOk, IsOk, IfNone, IfSome, Some, Contains, codes};
 
 use indexmap::IndexSet;
@@ -27,7 +31,7 @@ impl Model for Texts {
 }
 
 impl Texts {
-    ghost use Rattle.mem_base.specs.Texts.{unknown, interned, IsTable};
+    ghost use Rattle.mem_base.specs.Texts.{unknown, with_text, IsTable};
 
     /// The table of the unknown text alone.
     pub fn new(alloc: Global) -> Result<Texts, AllocError>
@@ -41,7 +45,7 @@ impl Texts {
     /// The number of the text, which is added last where it is new.
     pub fn intern(&mut self, text: &[u8]) -> Result<TextId, AllocError>
         requires { length self.old < 2 ^ 32 - 1 }
-        ensures table { OnOk result (self.new ≡ interned self.old text.now) }
+        ensures table { OnOk result (self.new ≡ with_text self.old text.now) }
         ensures number { IfOk result (λ id. slice_get self.new id.0 ≡ Some text.now) }
         ensures err { OnErr result (self.new ≡ self.old) }
     {

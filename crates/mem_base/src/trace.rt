@@ -1,3 +1,6 @@
+//! Traces: tracks of operations on blocks that have names, and the order in which tracks are picked.
+//! Names are written out once, in the trace's table; an operation has their numbers.
+
 use crate::{List, TextId, Texts};
 
 /// An allocation domain, by the letter that the debug hooks write into its blocks.
@@ -27,7 +30,7 @@ impl Letter {
     }
 }
 
-/// The place of a track in its trace, from 0.
+/// The index of a track in its trace, from 0.
 pub type TrackId = u32;
 
 /// Which of the two memory sources is meant.

@@ -9,9 +9,9 @@ use Rattle.extents.specs.Extent.{Extent, covers, region_extent}
 use Rattle.extents.proofs.Lists.{has_left, has_right, has_either, has-map, inserted_first}
 use Rattle.layout_model.specs.Sizes.{capacity}
 use Rattle.pool_core.specs.Pool.{blocks_of, size_of, IsPool}
-use Rattle.heap_view.specs.Tables.{PoolLine}
-use Rattle.heap_view.specs.Ground.{Site, in_arena}
-use Rattle.heap_view.proofs.Ground.{places_are_in_arenas}
+use Rattle.heap_model.specs.Tables.{PoolLine}
+use Rattle.heap_model.specs.Ground.{Site, in_arena}
+use Rattle.heap_model.proofs.Ground.{places_are_in_arenas}
 use Rattle.arena_set.specs.declared.pool_id.PoolId.{PoolId}
 use Rattle.arena_set.specs.declared.started.Started.{Started}
 use Rattle.arena_set.specs.Flat.{AllSome, part, flat}

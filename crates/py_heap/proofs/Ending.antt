@@ -10,18 +10,18 @@ use Rattle.extents.proofs.Lists.{tally_has, length_inserted, has-map, has_new}
 use Rattle.links.specs.Nodes.{times}
 use Rattle.sources.specs.Source.{SourceView, ArenaShape}
 use Rattle.sources.specs.Holder.{Traded}
-use Rattle.sources.proofs.Holders.{traded_gave, traded_then}
+use Rattle.sources.proofs.CallerLemmas.{traded_gave, traded_then}
 use Rattle.pool_core.specs.Pool.{blocks_of, live_of, size_of}
-use Rattle.heap_view.specs.Tables.{PoolLine}
-use Rattle.heap_view.specs.Ground.{Site, in_arena, ArenaHas}
-use Rattle.heap_view.proofs.Counts.{arenas_are_free}
+use Rattle.heap_model.specs.Tables.{PoolLine}
+use Rattle.heap_model.specs.Ground.{Site, in_arena, ArenaHas}
+use Rattle.heap_model.proofs.Counts.{arenas_are_free}
 use Rattle.arena_set.specs.Arena.{ArenaView, total_at, pool_loans, block_extent, pool_offset, arena_loans}
 use Rattle.arena_set.specs.Set.{SetView, empty_set, line_of as usable_line, dry_of, dry_entry, usable_of, usable_times, regions_of, loans_of, IsSet}
 use Rattle.arena_set.specs.Calls.{IsAt, AllIdle, HasNone, EndsOne}
 use Rattle.arena_set.specs.Flat.{part}
 use Rattle.arena_set.proofs.Flats.{inside, flat_empty}
-use Rattle.heap_view.proofs.Pools.{tally_some}
-use Rattle.heap_view.proofs.Empty.{empty_tables_are_kept}
+use Rattle.heap_model.proofs.Pools.{tally_some}
+use Rattle.heap_model.proofs.Empty.{empty_tables_are_kept}
 use Rattle.py_heap.specs.Heap.{empty_heap}
 use Rattle.py_heap.specs.Kept.{ClassView, State, no_pools, lines_of, tables_of, heap_of, IsKeptState}
 use Rattle.py_heap.specs.Marks.{NoneHas}

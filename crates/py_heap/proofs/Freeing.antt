@@ -8,18 +8,18 @@ use Rattle.extents.specs.Sums.{tally, Has, Removed, Replaced}
 use Rattle.extents.specs.Extent.{Extent, piece_extent, AreApart}
 use Rattle.extents.proofs.Lists.{tally_has, tally_replaced, length_inserted}
 use Rattle.layout_model.specs.Sizes.{capacity}
-use Rattle.layout_model.proofs.Place.{many}
+use Rattle.layout_model.proofs.CallerLemmas.{many}
 use Rattle.pool_core.specs.Pool.{live_of, blocks_of, size_of, after_give}
 use Rattle.pool_core.proofs.Moves.{gave}
 use Rattle.pool_core.proofs.Blocks.{block_inside}
-use Rattle.heap_view.specs.Tables.{PoolLine, with_one_less}
-use Rattle.heap_view.specs.Laws.{IsUnplaced}
-use Rattle.heap_view.specs.Ground.{Site, slot_at, ArenaHas, PoolHas, StandsIn, AreStanding}
-use Rattle.heap_view.proofs.Pools.{tally_some, number_self}
-use Rattle.heap_view.proofs.Orderly.{has_after}
-use Rattle.heap_view.proofs.Places.{place_there}
-use Rattle.heap_view.proofs.Ground.{address_finds_pool}
-use Rattle.heap_view.proofs.Unplaced.{freed_full_is_unplaced, freed_one_is_unplaced}
+use Rattle.heap_model.specs.Tables.{PoolLine, with_one_less}
+use Rattle.heap_model.specs.Laws.{IsUnplaced}
+use Rattle.heap_model.specs.Ground.{Site, slot_at, ArenaHas, PoolHas, StandsIn, AreStanding}
+use Rattle.heap_model.proofs.Pools.{tally_some, number_self}
+use Rattle.heap_model.proofs.Orderly.{has_after}
+use Rattle.heap_model.proofs.Places.{place_there}
+use Rattle.heap_model.proofs.Ground.{address_finds_pool}
+use Rattle.heap_model.proofs.Unplaced.{freed_full_is_unplaced, freed_one_is_unplaced}
 use Rattle.arena_set.specs.declared.pool_id.PoolId.{PoolId}
 use Rattle.arena_set.specs.declared.started.Started.{Started}
 use Rattle.arena_set.specs.Arena.{ArenaView, pool_offset, pool_loans, block_extent, piece_offset, after_mend}

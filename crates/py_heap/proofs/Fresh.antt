@@ -9,16 +9,16 @@ use Rattle.extents.specs.Sums.{tally, Has, Inserted}
 use Rattle.extents.specs.Extent.{piece_extent, AreApart}
 use Rattle.extents.proofs.Lists.{tally_inserted, length_inserted, inserted-map}
 use Rattle.layout_model.specs.Sizes.{size_of_class, capacity}
-use Rattle.layout_model.proofs.Place.{many}
+use Rattle.layout_model.proofs.CallerLemmas.{many}
 use Rattle.links.specs.Nodes.{times}
 use Rattle.pool_core.specs.Pool.{PoolView, live_of, new_pool, HasRoom}
 use Rattle.pool_core.proofs.Moves.{new_is_pool}
-use Rattle.heap_view.specs.Tables.{PoolLine, spot_of, with_one_more}
-use Rattle.heap_view.specs.View.{places_of}
-use Rattle.heap_view.specs.Laws.{IsPlaced}
-use Rattle.heap_view.proofs.Placed.{new_pool_is_placed}
-use Rattle.heap_view.proofs.Places.{places_long}
-use Rattle.heap_view.proofs.Counts.{started_and_lent}
+use Rattle.heap_model.specs.Tables.{PoolLine, spot_of, with_one_more}
+use Rattle.heap_model.specs.View.{places_of}
+use Rattle.heap_model.specs.Laws.{IsPlaced}
+use Rattle.heap_model.proofs.Placed.{new_pool_is_placed}
+use Rattle.heap_model.proofs.Places.{places_long}
+use Rattle.heap_model.proofs.Counts.{started_and_lent}
 use Rattle.arena_set.specs.declared.pool_id.PoolId.{PoolId}
 use Rattle.arena_set.specs.declared.started.Started.{Started}
 use Rattle.arena_set.specs.Arena.{ArenaView, after_start, started_times}

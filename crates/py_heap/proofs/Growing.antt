@@ -11,10 +11,10 @@ use Rattle.layout_model.specs.Layout.{Layout}
 use Rattle.layout_model.specs.Place.{Placed, place, place_by, pools_of_class, granted, new_arena}
 use Rattle.layout_model.specs.Asks.{is_empty, class_asks}
 use Rattle.layout_model.specs.Sound.{IsSound}
-use Rattle.layout_model.proofs.Place.{granted_keeps}
-use Rattle.heap_view.specs.View.{layout_of, places_of, place_in, used_at, used_of, full_of}
-use Rattle.heap_view.specs.Kept.{IsKept, AreOrderly}
-use Rattle.heap_view.specs.Ground.{Site}
+use Rattle.layout_model.proofs.CallerLemmas.{granted_keeps}
+use Rattle.heap_model.specs.View.{layout_of, places_of, place_in, used_at, used_of, full_of}
+use Rattle.heap_model.specs.Kept.{IsKept, AreOrderly}
+use Rattle.heap_model.specs.Ground.{Site}
 use Rattle.std.specs.List.{range_with_len}
 use Rattle.links.specs.Nodes.{times}
 use Rattle.arena_set.specs.Flat.{AllSome}

@@ -10,12 +10,12 @@ use Rattle.extents.proofs.Lists.{tally_replaced, length_inserted}
 use Rattle.layout_model.specs.Sizes.{size_of_class, capacity}
 use Rattle.pool_core.specs.Pool.{HasRoom, IsPool}
 use Rattle.pool_core.proofs.Moves.{took}
-use Rattle.heap_view.specs.Tables.{Spot, PoolLine, spot_of, with_one_more}
-use Rattle.heap_view.specs.Kept.{IsKept}
-use Rattle.heap_view.specs.Laws.{IsPlaced}
-use Rattle.heap_view.proofs.Members.{first_has_room}
-use Rattle.heap_view.proofs.Placed.{one_more_is_placed, last_one_is_placed}
-use Rattle.heap_view.proofs.Places.{place_there}
+use Rattle.heap_model.specs.Tables.{Spot, PoolLine, spot_of, with_one_more}
+use Rattle.heap_model.specs.Kept.{IsKept}
+use Rattle.heap_model.specs.Laws.{IsPlaced}
+use Rattle.heap_model.proofs.Members.{first_has_room}
+use Rattle.heap_model.proofs.Placed.{one_more_is_placed, last_one_is_placed}
+use Rattle.heap_model.proofs.Places.{place_there}
 use Rattle.arena_set.specs.declared.pool_id.PoolId.{PoolId}
 use Rattle.arena_set.specs.declared.started.Started.{Started}
 use Rattle.arena_set.specs.Arena.{ArenaView, IsSound}

@@ -9,19 +9,19 @@ use Rattle.extents.specs.Extent.{Extent, region_extent, piece_extent, AreApart}
 use Rattle.extents.proofs.Lists.{tally_has, tally_inserted, length_inserted, inserted-map, has_new, has_right}
 use Rattle.layout_model.specs.Sizes.{capacity}
 use Rattle.layout_model.specs.Unplace.{find_arena, without_arena, put_arena, is_last}
-use Rattle.layout_model.proofs.Place.{many}
+use Rattle.layout_model.proofs.CallerLemmas.{many}
 use Rattle.pool_core.specs.Pool.{IsEmpty}
-use Rattle.heap_view.specs.Tables.{PoolLine, Tables, with_one_less}
-use Rattle.heap_view.specs.View.{places_of}
-use Rattle.heap_view.specs.Kept.{has_number}
-use Rattle.heap_view.specs.Laws.{IsUnplaced}
-use Rattle.heap_view.specs.Changes as changes
-use Rattle.heap_view.specs.Ground.{Site, in_arena, ArenaHas}
-use Rattle.heap_view.proofs.Pools.{tally_once, number_self}
-use Rattle.heap_view.proofs.Ground.{placed_pool}
-use Rattle.heap_view.proofs.Returned.{dry_arena_gets_pool, usable_arena_is_put, whole_arena_goes_back}
-use Rattle.heap_view.proofs.Counts.{mended_and_gone}
-use Rattle.heap_view.proofs.Members.{pool_is_listed}
+use Rattle.heap_model.specs.Tables.{PoolLine, Tables, with_one_less}
+use Rattle.heap_model.specs.View.{places_of}
+use Rattle.heap_model.specs.Kept.{has_number}
+use Rattle.heap_model.specs.Laws.{IsUnplaced}
+use Rattle.heap_model.specs.Changes as changes
+use Rattle.heap_model.specs.Ground.{Site, in_arena, ArenaHas}
+use Rattle.heap_model.proofs.Pools.{tally_once, number_self}
+use Rattle.heap_model.proofs.Ground.{placed_pool}
+use Rattle.heap_model.proofs.Returned.{dry_arena_gets_pool, usable_arena_is_put, whole_arena_goes_back}
+use Rattle.heap_model.proofs.Counts.{mended_and_gone}
+use Rattle.heap_model.proofs.Members.{pool_is_listed}
 use Rattle.arena_set.specs.declared.pool_id.PoolId.{PoolId}
 use Rattle.arena_set.specs.declared.started.Started.{Started}
 use Rattle.arena_set.specs.Arena.{ArenaView, pool_offset, after_give_pool, started_times}

@@ -14,11 +14,11 @@ use Rattle.layout_model.specs.Sizes.{capacity}
 use Rattle.layout_model.specs.Layout.{Layout}
 use Rattle.layout_model.specs.Place.{pools_of_class}
 use Rattle.pool_core.specs.Pool.{live_of}
-use Rattle.heap_view.specs.Tables.{PoolLine, spot_of}
-use Rattle.heap_view.specs.View.{used_at, full_pool, full_in as full_by, full_of}
-use Rattle.heap_view.specs.Kept.{has_number}
-use Rattle.heap_view.proofs.Pools.{used_here, listed_pool, number_self}
-use Rattle.heap_view.proofs.Numbered.{numbered_at, numbered_goes}
+use Rattle.heap_model.specs.Tables.{PoolLine, spot_of}
+use Rattle.heap_model.specs.View.{used_at, full_pool, full_in as full_by, full_of}
+use Rattle.heap_model.specs.Kept.{has_number}
+use Rattle.heap_model.proofs.Pools.{used_here, listed_pool, number_self}
+use Rattle.heap_model.proofs.Numbered.{numbered_at, numbered_goes}
 use Rattle.arena_set.specs.declared.pool_id.PoolId.{PoolId}
 use Rattle.arena_set.specs.declared.started.Started.{Started}
 use Rattle.arena_set.specs.Arena.{ArenaView}

@@ -7,7 +7,7 @@ ghost use Rattle.extents.specs.Sums.{tally, AllIn};
 ghost use Rattle.extents.specs.Extent.{covers};
 ghost use Rattle.pool_core.specs.Pool.{new_pool};
 ghost use Rattle.sources.specs.Holder.{AskedNothing, Traded};
-ghost use Rattle.heap_view.specs.Ground.{total_at};
+ghost use Rattle.heap_model.specs.Ground.{total_at};
 ghost use Rattle.arena_set.specs.Set.{loans_of, regions_of, IsSet};
 ghost use Rattle.arena_set.specs.Calls.{AllIdle, IsFirst};
 ghost use Rattle.py_heap.specs.Heap.{empty_heap, Serves};

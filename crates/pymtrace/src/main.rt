@@ -1,9 +1,14 @@
 //! `pymtrace`: reads a recorded trace of allocation operations from standard input, replays it, and
 //! prints what each operation answered.
+//!
+//! The output goes through a buffer, so that a run costs one write for each full buffer and not one
+//! for each event. So a write that fails may be met some events later, and at the latest when the
+//! buffer is flushed at the end; the status is 5 all the same.
 #![tactic(auto)]
 
-use replay_tool::run;
+use replay_tool::{Status, run};
 use sources::{MemArenas, MemRaw};
+use std::io::BufWriter;
 use std::process::ExitCode;
 use std::rt::Env;
 use std::{env, io};
@@ -25,19 +30,21 @@ fn words<R: Env + AllocGlobal>(rt: &R) -> io::Result<Vec<String>> {
     Ok(words)
 }
 
-/// The status of a run that found no memory for its words or its sources.
-const OUT_OF_MEMORY: u8 = 6;
+// How many bytes of the output are held back and written together.
+const BUFFER: usize = 65_536;
 
 fn main(rt: HostRuntime) -> ExitCode {
-    let Ok(words) = words(&rt) else {
-        return ExitCode::from(OUT_OF_MEMORY);
+    let (Ok(words), Ok(buffer), Ok(mut arenas), Ok(mut raw)) = (
+        words(&rt),
+        BufWriter::with_capacity(rt.alloc(), BUFFER, rt.stdout()),
+        MemArenas::new(rt.alloc()),
+        MemRaw::new(rt.alloc()),
+    ) else {
+        return ExitCode::from(Status::OutOfMemory.number());
     };
     let mut input = StdSource::new(rt.stdin());
-    let mut out = StdSink::new(rt.stdout());
+    let mut out = StdSink::new(buffer);
     let mut err = StdSink::new(rt.stderr());
-    let (Ok(mut arenas), Ok(mut raw)) = (MemArenas::new(rt.alloc()), MemRaw::new(rt.alloc())) else {
-        return ExitCode::from(OUT_OF_MEMORY);
-    };
     let outcome = run(
         rt.alloc(),
         words.as_slice(),
@@ -47,5 +54,8 @@ fn main(rt: HostRuntime) -> ExitCode {
         &mut out,
         &mut err,
     );
-    ExitCode::from(outcome.status)
+    match out.flush() {
+        Ok(()) => ExitCode::from(outcome.status),
+        Err(_) => ExitCode::from(Status::WriteFault.number()),
+    }
 }

@@ -45,8 +45,8 @@ module _ (es : List (ℕ × RegionView)) (kept : AreKept es) where
       }
 
   -- a region that meets none was carved as a whole
-  pub lent : (old new : RegionView) (place len : ℕ) → MeetsNone (region_extent old) (blocks es) → len ≡ length old.cells → 1 ≤ len → place ≡ new.base → (new.base ≡ old.base) × (new.maker ≡ old.maker) → new.cells ≡ away old.cells 0 len → IsLent es (region_extent old) place new
-  lent old new place len meets long some base same cells =
+  pub region_comes : (old new : RegionView) (place len : ℕ) → MeetsNone (region_extent old) (blocks es) → len ≡ length old.cells → 1 ≤ len → place ≡ new.base → (new.base ≡ old.base) × (new.maker ≡ old.maker) → new.cells ≡ away old.cells 0 len → IsLent es (region_extent old) place new
+  region_comes old new place len meets long some base same cells =
       let inside : 0 + len ≤ length old.cells = omega arith in
       let size : length new.cells ≡ length old.cells = ap length cells ∙ length-away old.cells 0 len inside in
       let all : AreLent new.cells 0 (length new.cells) = subst (λ l. AreLent new.cells 0 l) (long ∙ sym size) (subst (λ l. AreLent l 0 len) (sym cells) (lent_away old.cells 0 len inside)) in
@@ -56,13 +56,13 @@ module _ (es : List (ℕ × RegionView)) (kept : AreKept es) where
 
   -- a block goes
   module _ (piece : PieceView) (has : Has (piece_extent piece) (blocks es)) where
-    pub found : Found block_at (λ e. refl) (piece_extent piece) piece.place es
-    found = tree_found block_at (λ e. refl) es (piece_extent piece) piece.place refl has (begins_once (blocks es) (some_bytes es kept) kept.apart piece.place)
+    pub entry : Found block_at (λ e. refl) (piece_extent piece) piece.place es
+    entry = tree_found block_at (λ e. refl) es (piece_extent piece) piece.place refl has (begins_once (blocks es) (some_bytes es kept) kept.apart piece.place)
 
     pub kept_fewer : AreKept (remove_entry (is_at (nat_cmp piece.place)) es)
     kept_fewer = record {
       whole = λ e there. kept.whole e (removed_entry (is_at (nat_cmp piece.place)) es e there);
-      apart = apart_fewer (piece_extent piece) (blocks es) (blocks (remove_entry (is_at (nat_cmp piece.place)) es)) kept.apart found.removed;
+      apart = apart_fewer (piece_extent piece) (blocks es) (blocks (remove_entry (is_at (nat_cmp piece.place)) es)) kept.apart entry.removed;
     }
 
     -- the region of the block is lent as a whole, and named by its piece
@@ -74,16 +74,16 @@ module _ (es : List (ℕ × RegionView)) (kept : AreKept es) where
 
     -- what the map answers for the block's place
     module _ (place : ℕ) (answer : Option RegionView) (at : place ≡ piece.place) (told : answer ≡ lookup (is_at (nat_cmp place)) es) where
-      answer_is : answer ≡ Some found.value
-      answer_is = told ∙ ap (λ k. lookup (is_at (nat_cmp k)) es) at ∙ found.found
+      answer_is : answer ≡ Some entry.value
+      answer_is = told ∙ ap (λ k. lookup (is_at (nat_cmp k)) es) at ∙ entry.found
 
       pub not_none : answer ≡ None → ⊥
       not_none is = let f = answer_is in cc
 
       pub region_of : (region : RegionView) → answer ≡ Some region → IsRegionOf region
       region_of region is =
-          let f = answer_is in let same : found.value ≡ region = cc in let whole = kept.whole (piece.place, found.value) found.here in
-          subst IsRegionOf same (record { maker = sym (ap (λ d. d.maker) found.is); base = sym whole.base; len = sym (ap (λ d. d.len) found.is); lent = whole.lent })
+          let f = answer_is in let same : entry.value ≡ region = cc in let whole = kept.whole (piece.place, entry.value) entry.here in
+          subst IsRegionOf same (record { maker = sym (ap (λ d. d.maker) entry.is); base = sym whole.base; len = sym (ap (λ d. d.len) entry.is); lent = whole.lent })
 
 -- a piece that is the whole region may come home
 pub may_mend : (es : List (ℕ × RegionView)) (kept : AreKept es) (piece : PieceView) (has : Has (piece_extent piece) (blocks es)) (region : RegionView) → IsRegionOf es kept piece has region →
@@ -93,8 +93,8 @@ may_mend es kept piece has region is =
     (is.maker, omega (arith, is.base), subst (λ n. AreLent region.cells (piece.place - region.base) n) (sym is.len) (subst (λ o. AreLent region.cells o (length region.cells)) off is.lent))
 
 -- and then every byte is at home
-pub mended : (piece : PieceView) (cells new : List (Option ℕ)) (off : ℕ) → off ≡ 0 → length piece.bytes ≡ length cells → new ≡ with_run cells off (length piece.bytes) (map Some piece.bytes) → AllHome new × (length new ≡ length piece.bytes)
-mended piece cells new off start len is =
+pub mends_whole : (piece : PieceView) (cells new : List (Option ℕ)) (off : ℕ) → off ≡ 0 → length piece.bytes ≡ length cells → new ≡ with_run cells off (length piece.bytes) (map Some piece.bytes) → AllHome new × (length new ≡ length piece.bytes)
+mends_whole piece cells new off start len is =
     let bytes : new ≡ map Some piece.bytes =
     is ∙ ap (λ o. with_run cells o (length piece.bytes) (map Some piece.bytes)) start ∙ ap (λ l. map Some piece.bytes ++ l) (drop_all (0 + length piece.bytes) cells (omega arith)) ∙ append-nil (map Some piece.bytes) in
     (subst AllHome (sym bytes) (ap (λ l. map Some l) (sym (at_home-map piece.bytes))), ap length bytes ∙ length-map piece.bytes Some)

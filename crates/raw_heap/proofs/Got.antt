@@ -15,9 +15,9 @@ module _ (n : ℕ) (old new : List Extent) (seen : SourceView ℕ) (answer : Opt
   got_none is = subst (λ a. IsGot n a old new seen) is got
 
 -- as many loans as before, where one has come and gone
-pub came_and_went : (e : Extent) (old mid new : List Extent) → Inserted e old mid → Removed e mid new → length new ≡ length old
-came_and_went e old mid new i j = omega (arith, length_inserted e old mid i, length_inserted e new mid j)
+pub comes_and_goes : (e : Extent) (old mid new : List Extent) → Inserted e old mid → Removed e mid new → length new ≡ length old
+comes_and_goes e old mid new i j = omega (arith, length_inserted e old mid i, length_inserted e new mid j)
 
 -- also where as many loans were there as came and went meanwhile
-pub crossed : (e : Extent) (old mid later new : List Extent) → Inserted e old mid → length later ≡ length mid → Removed e later new → length new ≡ length old
-crossed e old mid later new i same j = omega (arith, length_inserted e old mid i, length_inserted e new later j)
+pub comes_before_it_goes : (e : Extent) (old mid later new : List Extent) → Inserted e old mid → length later ≡ length mid → Removed e later new → length new ≡ length old
+comes_before_it_goes e old mid later new i same j = omega (arith, length_inserted e old mid i, length_inserted e new later j)

@@ -1,2 +1,2 @@
-pub mod Blocks
-pub mod Got
+mod Blocks
+mod Got

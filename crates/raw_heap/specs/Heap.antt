@@ -10,7 +10,8 @@ abbrev pub refusals_of : Option PieceView → ℕ
 refusals_of None = 1
 refusals_of (Some piece) = 0
 
--- a block of n bytes, or of 1 byte where n is 0: it lies in the source's window, meets nothing that was out, and is now among the loans
+-- a block of n bytes, or of 1 byte where n is 0: it lies in the source's window, meets nothing that was out, and is
+-- now among the loans
 pub record IsBlock (n : ℕ) (piece : PieceView) (old new : List Extent) (seen : SourceView ℕ) : Type 0 where
   pub len : length piece.bytes ≡ max n 1
   pub aligned : piece.place % 16 ≡ 0

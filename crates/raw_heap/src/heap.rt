@@ -1,11 +1,10 @@
 //! The raw blocks of one heap.
 
-ghost use Rattle.std.specs.Prelude.{◌≡◌, ◌+◌, ◌^◌, ◌<◌, ◌≤◌, [], length, None, IfOk, IfErr, OnOk, OnErr, IsOkAnd};
+ghost use Rattle.std.specs.Prelude.{◌≡◌, ◌+◌, ◌^◌, ◌<◌, ◌≤◌, [], length, IfOk, IfErr, OnOk, OnErr};
 ghost use Rattle.raw_region.specs.Cells.{AllHome};
 ghost use Rattle.extents.specs.Extent.{AreApart, MeetsNone, piece_extent, region_extent};
 ghost use Rattle.extents.specs.Sums.{AllIn, Has, Inserted, Removed};
-ghost use Rattle.mem_base.specs.Plan.{IsPlanned};
-ghost use Rattle.sources.specs.Holder.{AskedNothing, Traded};
+ghost use Rattle.sources.specs.Holder.{Answered, AskedNothing, AskedUnrefused, Traded};
 ghost use Rattle.raw_heap.specs.Heap.{IsGot, refusals_of};
 ghost use Rattle.raw_heap.specs.Kept.{AreKept, blocks};
 
@@ -48,7 +47,8 @@ fn lend(regions: &mut BTreeMap<u64, Region>, mut region: Region) -> Result<Piece
     requires kept { AreKept regions.old.entries }
     requires apart { MeetsNone (region_extent region) (blocks regions.old.entries) }
     ensures piece { IfOk result (λ piece. piece_extent piece ≡ region_extent region) }
-    ensures added { OnOk result (Inserted (region_extent region) (blocks regions.old.entries) (blocks regions.new.entries)) }
+    ensures added { OnOk result (Inserted (region_extent region)
+        (blocks regions.old.entries) (blocks regions.new.entries)) }
     ensures kept { OnOk result (AreKept regions.new.entries) }
     ensures whole { IfErr result (λ back. AllHome back.cells) }
     ensures same { IfErr result (λ back. region_extent back ≡ region_extent region) }
@@ -93,18 +93,25 @@ impl RawHeap {
     }
 
     /// Asks for a block of `n` bytes, or of 1 byte where `n` is 0. There is none where the source
-    /// refuses the request. The error is that there was no memory, and leaves the heap as it was: a
-    /// region that was granted has gone back.
+    /// refuses the request. The error is that there was no memory, and never that the source refused.
+    /// It leaves the heap as it was: a region that was granted has gone back.
     pub fn alloc<R: RawSource>(&mut self, n: u64, raws: &mut R) -> Result<RawGot, AllocError>
         requires count { (R.seen raws.old).asked < 2 ^ 63 }
         requires held { AllIn self.old (R.seen raws.old).out }
+
+        // What block there is.
         ensures got { IfOk result (λ got. IsGot n got.piece self.old self.new (R.seen raws.old)) }
-        ensures stay { AllIn self.old self.new }
+        ensures failed { OnErr result (self.new ≡ self.old) }
+
+        // What the source was asked.
         ensures asked { (R.seen raws.new).asked ≡ (R.seen raws.old).asked + 1 }
-        ensures refused { IfOk result (λ got. (R.seen raws.new).refused ≡ (R.seen raws.old).refused + refusals_of got.piece) }
-        ensures planned { IsPlanned (R.seen raws.old).plan ((R.seen raws.old).asked + 1) → IsOkAnd result (λ got. got.piece ≡ None) }
+        ensures answered { IfOk result (λ got. Answered 1 (refusals_of got.piece)
+            (R.seen raws.old) (R.seen raws.new)) }
+        ensures unrefused { OnErr result (AskedUnrefused (R.seen raws.old) (R.seen raws.new)) }
         ensures plan { (R.seen raws.new).plan ≡ (R.seen raws.old).plan }
-        ensures failed { OnErr result ((self.new ≡ self.old) × ((R.seen raws.new).refused ≡ (R.seen raws.old).refused)) }
+
+        // What the heap holds.
+        ensures stay { AllIn self.old self.new }
         ensures traded { Traded self.old self.new (R.seen raws.old) (R.seen raws.new) }
         ensures apart { AreApart self.new }
     {

@@ -1,33 +1,30 @@
 -- What a replay keeps from event to event.
-use Rattle.std.proofs.Common.{◌≡◌, inl, inr, ℕ, ◌+◌, ◌<◌, List, [], ◌∷◌, ◌++◌, length, refl, sym, ap, subst, ◌∙◌, append-nil, slice_get, Option, Some, None, Result, Ok, Err}
-use Rattle.std.specs.Prelude.{OnErr, OnOk}
-use Rattle.std.specs.Io.KnownBytes.{Appends, Keeps}
+use Rattle.std.proofs.Common.{◌≡◌, inl, inr, ℕ, ◌+◌, ◌<◌, List, [], ◌∷◌, ◌++◌, length, refl, sym, ap, subst, ◌∙◌, append-nil, length-append, slice_get, Option, Some, None, Result, Ok, Err, arith, take}
+use Rattle.std.specs.Io.KnownBytes.{Appends}
 use Rattle.std.proofs.KnownBytes.{Appends-trans}
-use Rattle.streams.specs.Moves.{WroteFront}
+use Rattle.streams.specs.Faults.{raised}
 use Rattle.mem_base.specs.declared.history.Entry.{Entry}
 use Rattle.mem_base.specs.declared.reply.Step.{Step}
 use Rattle.mem_base.specs.declared.trace.Trace.{Trace}
 use Rattle.trace_model.specs.Known.{IsKnownTrace}
 use Rattle.trace_model.specs.Plain.{PlainTrack, plain}
 use Rattle.event_model.specs.Events.{action_after, left_in}
-use Rattle.event_model.specs.History.{opening, last_state, IsLegal}
-use Rattle.event_model.proofs.HistoryLaws.{legal_push}
-use Rattle.event_model.proofs.LeftLaws.{leaves_less}
-use Rattle.report_model.specs.Report.{lines_for, events_text}
-use Rattle.report_model.proofs.ReportLaws.{one_more}
-use Rattle.sources.proofs.Holders.{traded_then}
+use Rattle.event_model.specs.History.{opening, last_state, IsLegal, IsWhole}
+use Rattle.event_model.proofs.CallerLemmas.{legal_push}
+use Rattle.event_model.proofs.CallerLemmas.{leaves_less}
+use Rattle.report_model.specs.Report.{lines_for, event_text, events_text, summary_text}
+use Rattle.report_model.proofs.CallerLemmas.{one_more}
+use Rattle.sources.specs.Holder.{Traded}
+use Rattle.sources.proofs.CallerLemmas.{traded_then}
 use Rattle.machine_core.specs.View.{MachineView, tracks_of, state_of, IsEvent}
-use Rattle.replay_tool.specs.declared.events.Halt.{Halt}
-use Rattle.replay_tool.specs.declared.events.Halt.TheVariants.{WriteFault, OutOfMemory}
 use Rattle.report_text.specs.Texts.{step_text}
-use Rattle.replay_tool.specs.Events.{text_from, OneMore, Stopped, TradedBoth, WasCut, RanOut}
-use Rattle.replay_tool.specs.Served.{Served, ServedNearly, Sources}
+use Rattle.replay_tool.specs.declared.status.Halt.{Halt}
+use Rattle.replay_tool.specs.declared.status.Halt.TheVariants.{WriteFault, OutOfMemory}
+use Rattle.replay_tool.specs.Status.{Tells}
+use Rattle.replay_tool.specs.Replays.{EventStops, ReportStops, ReportEnds, Moment, OneMore, NoneMore, LackedEvent, BrokeEvent, TradedBoth, text_from, replay_between, the_report, RanWhole, RanUntilBroken, RanOut}
+use Rattle.replay_tool.specs.Served.{Served, ServedNearly}
+use Rattle.replay_tool.specs.Streams.{Stream, Wrote, BrokeWithin}
 use Rattle.replay_tool.proofs.ServedLaws.{served_more, served_nearly, served_failed}
-
--- what a result that is this error ensures
-pub at_err : {T E : Type 0} (r : Result T E) (e : E) (P : Type 0) → r ≡ Err e → OnErr r P → P
-at_err (Ok x) e P is h = absurd cc
-at_err (Err d) e P is h = h
 
 -- ---- the text of a step
 
@@ -36,133 +33,199 @@ pub step_text_is : (t : ℕ) (old : MachineView) (new : List Entry) (step : Step
 step_text_is t old new step is =
     λ i. lines_for (length old.entries + 1) (slice_get (tracks_of old) step.entry.track) (action_after (tracks_of old) step.entry.track (is.next.at i)) (is.reply i)
 
--- ---- from event to event
+-- the buffer has that text, where a step's text was put into it
+pub buffer_is : (t : ℕ) (old new : MachineView) (step : Step) (trace : Trace) (number : ℕ) (start buffer : List ℕ) → IsEvent old.trace old.entries new.entries t step
+    → trace ≡ old.trace → number ≡ length new.entries → start ≡ [] → buffer ≡ start ++ step_text trace number step → buffer ≡ text_from old step.entry
+buffer_is t old new step trace number start buffer did trace_is number_is start_is is =
+    let numbered : number ≡ length old.entries + 1 = number_is ∙ ap length did.grows ∙ length-append old.entries (step.entry ∷ []) in
+    is ∙ (λ i. start_is i ++ step_text (trace_is i) (numbered i) step) ∙ step_text_is t old new.entries step did
 
--- what was written so far is the texts of the events so far, and the sources answered their requests
-pub record Going (first m : MachineView) (before now : Option (List ℕ)) (seen seen_now : Sources) : Type 0 where
-  pub same : m.trace ≡ first.trace
-  pub legal : IsLegal (tracks_of m) m.entries
-  pub written : Appends before now (events_text (tracks_of m) m.entries)
-  pub served : Served (tracks_of m) m.entries seen seen_now
-  pub traded : TradedBoth first m seen seen_now
+-- ---- texts one after another
 
--- regions were traded, and then again
-traded_on : (a b c : MachineView) (x y z : Sources) → TradedBoth a b x y → TradedBoth b c y z → TradedBoth a c x z
-traded_on a b c x y z first second = record {
-  arenas = traded_then a.arenas b.arenas c.arenas x.arenas y.arenas z.arenas first.arenas second.arenas;
-  raws = traded_then a.raws b.raws c.raws x.raw y.raw z.raw first.raws second.raws;
+-- one text was written, and then another
+wrote_both : (a b c : Stream) (xs ys : List ℕ) → Wrote a b xs → Wrote b c ys → Wrote a c (xs ++ ys)
+wrote_both a b c xs ys first second = record {
+  bytes = Appends-trans a.bytes b.bytes c.bytes xs ys first.bytes second.bytes;
+  calm = second.calm ∙ first.calm;
 }
 
--- a machine with one more event: its trace, that its history is legal, and its texts
-module _ (old new : MachineView) (seen seen_then : Sources) (more : OneMore old new seen seen_then) where
-  traded_more : TradedBoth old new seen seen_then
-  traded_more = record { arenas = more.arenas.traded; raws = more.raws.traded }
+-- one text was written, and then a front of another
+wrote_front : (a b c : Stream) (xs ys : List ℕ) → Wrote a b xs → BrokeWithin b c [] ys → BrokeWithin a c xs ys
+wrote_front a b c xs ys first second = record {
+  count = second.count;
+  short = second.short;
+  bytes = Appends-trans a.bytes b.bytes c.bytes xs (take second.count ys) first.bytes second.bytes;
+  broke = second.broke ∙ ap raised first.calm;
+}
 
+-- ---- from event to event
+
+-- the texts of the events so far were written, and the sources answered their requests
+pub record Going (first now : Moment) : Type 0 where
+  pub same : now.machine.trace ≡ first.machine.trace
+  pub legal : IsLegal (tracks_of now.machine) now.machine.entries
+  pub written : Wrote first.out now.out (events_text (tracks_of now.machine) now.machine.entries)
+  pub served : Served (tracks_of now.machine) now.machine.entries first.sources now.sources
+  pub traded : TradedBoth first now
+
+-- the trace is known as long as it is the same
+pub known_now : {first now : Moment} → Going first now → IsKnownTrace first.machine.trace → IsKnownTrace now.machine.trace
+known_now going known = subst IsKnownTrace (sym going.same) known
+
+-- regions were traded, and then again
+traded_on : (a b c : Moment) → TradedBoth a b → TradedBoth b c → TradedBoth a c
+traded_on a b c first second = record {
+  arenas = traded_then a.machine.arenas b.machine.arenas c.machine.arenas a.sources.arenas b.sources.arenas c.sources.arenas first.arenas second.arenas;
+  raws = traded_then a.machine.raws b.machine.raws c.machine.raws a.sources.raw b.sources.raw c.sources.raw first.raws second.raws;
+}
+
+-- one more event: its trace, that its history is legal, and its texts
+module _ (first old new : Moment) (known : IsKnownTrace first.machine.trace) (going : Going first old) (more : OneMore old new) where
   abbrev then : List Entry
-  then = old.entries ++ more.entry ∷ []
+  then = old.machine.entries ++ more.entry ∷ []
 
-  tracks_same : tracks_of new ≡ tracks_of old
+  tracks_same : tracks_of new.machine ≡ tracks_of old.machine
   tracks_same = ap (λ (t : Trace). (plain t).tracks) more.same
 
   -- what holds of the old machine's tracks and the longer history holds of the new machine
-  pub carried : (P : List PlainTrack → List Entry → Type 0) → P (tracks_of old) then → P (tracks_of new) new.entries
-  carried P p = subst (λ (t : List PlainTrack). P t new.entries) (sym tracks_same) (subst (P (tracks_of old)) (sym more.grows) p)
+  carried : (P : List PlainTrack → List Entry → Type 0) → P (tracks_of old.machine) then → P (tracks_of new.machine) new.machine.entries
+  carried P p = subst (λ (t : List PlainTrack). P t new.machine.entries) (sym tracks_same) (subst (P (tracks_of old.machine)) (sym more.grows) p)
 
-  legal_then : IsLegal (tracks_of old) old.entries → IsLegal (tracks_of old) then
-  legal_then legal = legal_push (tracks_of old) (opening (tracks_of old)) old.entries more.entry legal more.next
+  legal_more : IsLegal (tracks_of new.machine) new.machine.entries
+  legal_more = carried IsLegal (legal_push (tracks_of old.machine) (opening (tracks_of old.machine)) old.machine.entries more.entry going.legal more.next)
 
-  texts_then : events_text (tracks_of old) then ≡ events_text (tracks_of old) old.entries ++ text_from old more.entry
-  texts_then = one_more (tracks_of old) old.entries more.entry
+  served_then : Served (tracks_of new.machine) new.machine.entries first.sources new.sources
+  served_then =
+      carried (λ (t : List PlainTrack) (es : List Entry). Served t es first.sources new.sources)
+      (served_more old new more first.sources (known_now going known) going.served)
 
-  pub less_left : left_in (tracks_of new) (state_of new) < left_in (tracks_of old) (state_of old)
-  less_left = carried (λ (t : List PlainTrack) (es : List Entry). left_in t (last_state t es) < left_in (tracks_of old) (state_of old)) (leaves_less (tracks_of old) old.entries more.entry more.next)
+  texts_then : events_text (tracks_of old.machine) then ≡ events_text (tracks_of old.machine) old.machine.entries ++ text_from old.machine more.entry
+  texts_then = one_more (event_text (tracks_of old.machine)) (tracks_of old.machine) old.machine.entries more.entry
 
-  pub goes_on : (first : MachineView) (before now after : Option (List ℕ)) (seen_first : Sources) → IsKnownTrace old.trace → Going first old before now seen_first seen → Appends now after (text_from old more.entry)
-      → Going first new before after seen_first seen_then
-  goes_on first before now after seen_first known going text = record {
+  pub traded_more : TradedBoth first new
+  traded_more = traded_on first old new going.traded (record { arenas = more.arenas.traded; raws = more.raws.traded })
+
+  pub less_left : left_in (tracks_of new.machine) (state_of new.machine) < left_in (tracks_of old.machine) (state_of old.machine)
+  less_left =
+      carried (λ (t : List PlainTrack) (es : List Entry). left_in t (last_state t es) < left_in (tracks_of old.machine) (state_of old.machine))
+      (leaves_less (tracks_of old.machine) old.machine.entries more.entry more.next)
+
+  pub goes_on : Wrote old.out new.out (text_from old.machine more.entry) → Going first new
+  goes_on text = record {
     same = more.same ∙ going.same;
-    legal = carried IsLegal (legal_then going.legal);
-    written = carried (λ (t : List PlainTrack) (es : List Entry). Appends before after (events_text t es)) (subst (Appends before after) (sym texts_then) (Appends-trans before now after _ _ going.written text));
-    served = carried (λ (t : List PlainTrack) (es : List Entry). Served t es seen_first seen_then)
-        (served_more old new more.entry seen_first seen seen_then known more.next going.served more.arenas more.raws);
-    traded = traded_on first old new seen_first seen seen_then going.traded traded_more;
+    legal = legal_more;
+    written = carried (λ (t : List PlainTrack) (es : List Entry). Wrote first.out new.out (events_text t es))
+        (subst (Wrote first.out new.out) (sym texts_then) (wrote_both first.out old.out new.out _ _ going.written text));
+    served = served_then;
+    traded = traded_more;
   }
 
-  -- the text of the last event was cut off
-  pub cut_there : (first : MachineView) (before now after : Option (List ℕ)) (seen_first : Sources) → Going first old before now seen_first seen → WroteFront now after (text_from old more.entry)
-      → WasCut (tracks_of new) new.entries before after
-  cut_there first before now after seen_first going front =
-      carried (λ (t : List PlainTrack) (es : List Entry). WasCut t es before after) (record {
-        legal = legal_then going.legal;
-        cut = inl (record { earlier = old.entries; last = more.entry; all = refl; between = now; texts = going.written; front = front });
+  -- a write failed within the text of the last event
+  broke_there : BrokeWithin old.out new.out [] (text_from old.machine more.entry) → RanUntilBroken the_report (replay_between first new)
+  broke_there front = record {
+    legal = legal_more;
+    broke = inl (record {
+      earlier = old.machine.entries;
+      last = more.entry;
+      text = text_from old.machine more.entry;
+      all = more.grows;
+      adds = ap (λ (t : List PlainTrack). events_text t new.machine.entries) tracks_same ∙ ap (events_text (tracks_of old.machine)) more.grows ∙ texts_then
+          ∙ ap (λ (t : List PlainTrack). events_text t old.machine.entries ++ text_from old.machine more.entry) (sym tracks_same);
+      written = subst (λ (t : List PlainTrack). BrokeWithin first.out new.out (events_text t old.machine.entries) (text_from old.machine more.entry)) (sym tracks_same)
+          (wrote_front first.out old.out new.out _ _ going.written front);
+    });
+    served = served_then;
+  }
+
+  -- there was no memory for the text of the last event
+  lacked_text : new.out ≡ old.out → RanOut the_report (replay_between first new)
+  lacked_text kept = record {
+    legal = legal_more;
+    earlier = old.machine.entries;
+    later = more.entry ∷ [];
+    all = more.grows;
+    few = omega arith;
+    written = subst (λ (o : Stream). Wrote first.out o (events_text (tracks_of new.machine) old.machine.entries)) (sym kept)
+        (subst (λ (t : List PlainTrack). Wrote first.out old.out (events_text t old.machine.entries)) (sym tracks_same) going.written);
+    served = served_nearly (tracks_of new.machine) new.machine.entries first.sources new.sources served_then;
+  }
+
+-- memory ran out in an event, which was not done
+module _ (first old new : Moment) (going : Going first old) (none : NoneMore old new) where
+  -- what holds of the old machine holds of the new one
+  unmoved : (P : MachineView → Type 0) → P old.machine → P new.machine
+  unmoved P p = subst P (sym none.same) p
+
+  traded_none : TradedBoth first new
+  traded_none =
+      traded_on first old new going.traded (record {
+        arenas = unmoved (λ (m : MachineView). Traded old.machine.arenas m.arenas old.sources.arenas new.sources.arenas) none.arenas.traded;
+        raws = unmoved (λ (m : MachineView). Traded old.machine.raws m.raws old.sources.raw new.sources.raw) none.raws.traded;
       })
 
-  -- the text of the last event was not written
-  pub missing_last : (first : MachineView) (before now : Option (List ℕ)) (seen_first : Sources) → Going first old before now seen_first seen → RanOut (tracks_of new) new.entries before now
-  missing_last first before now seen_first going =
-      carried (λ (t : List PlainTrack) (es : List Entry). RanOut t es before now) (record {
-        legal = legal_then going.legal;
-        some = record { earlier = old.entries; later = more.entry ∷ []; all = refl; texts = going.written };
-      })
+  lacked_event : new.out ≡ old.out → RanOut the_report (replay_between first new)
+  lacked_event kept = record {
+    legal = unmoved (λ (m : MachineView). IsLegal (tracks_of m) m.entries) going.legal;
+    earlier = new.machine.entries;
+    later = [];
+    all = sym (append-nil new.machine.entries);
+    few = omega arith;
+    written = subst (λ (o : Stream). Wrote first.out o (events_text (tracks_of new.machine) new.machine.entries)) (sym kept)
+        (unmoved (λ (m : MachineView). Wrote first.out old.out (events_text (tracks_of m) m.entries)) going.written);
+    served = unmoved (λ (m : MachineView). ServedNearly (tracks_of m) m.entries first.sources new.sources)
+        (served_failed (tracks_of old.machine) old.machine.entries old.machine first.sources old.sources new.sources going.served none.arenas none.raws none.passed);
+  }
 
-  -- the source answered the requests, also of the last event
-  pub served_last : (first : MachineView) (before now : Option (List ℕ)) (seen_first : Sources) → IsKnownTrace old.trace → Going first old before now seen_first seen → Served (tracks_of new) new.entries seen_first seen_then
-  served_last first before now seen_first known going =
-      carried (λ (t : List PlainTrack) (es : List Entry). Served t es seen_first seen_then)
-      (served_more old new more.entry seen_first seen seen_then known more.next going.served more.arenas more.raws)
-
-  pub traded_last : (first : MachineView) (before now : Option (List ℕ)) (seen_first : Sources) → Going first old before now seen_first seen → TradedBoth first new seen_first seen_then
-  traded_last first before now seen_first going = traded_on first old new seen_first seen seen_then going.traded traded_more
-
--- all texts were written
-pub missing_none : (first m : MachineView) (before now : Option (List ℕ)) (seen seen_now : Sources) → Going first m before now seen seen_now → RanOut (tracks_of m) m.entries before now
-missing_none first m before now seen seen_now going = record {
-  legal = going.legal;
-  some = record { earlier = m.entries; later = []; all = sym (append-nil m.entries); texts = going.written };
-}
-
-pub kept_appends : (a b c : Option (List ℕ)) (bs : List ℕ) → Appends a b bs → Keeps b c → Appends a c bs
-kept_appends None b c bs p q = tt
-kept_appends (Some x) None c bs p q = absurd p
-kept_appends (Some x) (Some y) None bs p q = absurd q
-kept_appends (Some x) (Some y) (Some z) bs p q = q ∙ p
-
-pub ran_out_kept : (tracks : List PlainTrack) (es : List Entry) (before now after : Option (List ℕ)) → RanOut tracks es before now → Keeps now after → RanOut tracks es before after
-ran_out_kept tracks es before now after ran kept = record {
-  legal = ran.legal;
-  some = record { earlier = ran.some.earlier; later = ran.some.later; all = ran.some.all; texts = kept_appends before now after _ ran.some.texts kept };
-}
-
--- memory ran out in an event, or after it
-pub stopped_nearly : (first old new : MachineView) (before now : Option (List ℕ)) (seen_first seen seen_then : Sources) → IsKnownTrace old.trace → Going first old before now seen_first seen → Stopped old new seen seen_then
-    → ServedNearly (tracks_of new) new.entries seen_first seen_then
-stopped_nearly first old new before now seen_first seen seen_then known going stopped = elim stopped as (λ u. ServedNearly (tracks_of new) new.entries seen_first seen_then) [
-  | inl same ↦ subst (λ (m : MachineView). ServedNearly (tracks_of m) m.entries seen_first seen_then) (sym same.0) (served_failed (tracks_of old) old.entries old seen_first seen seen_then going.served same.1 same.2)
-  | inr more ↦ served_nearly (tracks_of new) new.entries seen_first seen_then (served_last old new seen seen_then more first before now seen_first known going)
+-- memory ran out, in an event or for its text
+lacked : (first old new : Moment) → IsKnownTrace first.machine.trace → Going first old → LackedEvent old new → RanOut the_report (replay_between first new)
+lacked first old new known going l = elim l.did [
+  | inl none ↦ lacked_event first old new going none l.out
+  | inr more ↦ lacked_text first old new known going more l.out
 ]
 
-pub stopped_traded : (first old new : MachineView) (before now : Option (List ℕ)) (seen_first seen seen_then : Sources) → Going first old before now seen_first seen → Stopped old new seen seen_then
-    → TradedBoth first new seen_first seen_then
-stopped_traded first old new before now seen_first seen seen_then going stopped = elim stopped as (λ u. TradedBoth first new seen_first seen_then) [
-  | inl same ↦ subst (λ (m : MachineView). TradedBoth first m seen_first seen_then) (sym same.0)
-      (traded_on first old old seen_first seen seen_then going.traded (record { arenas = same.1.traded; raws = same.2.traded }))
-  | inr more ↦ traded_last old new seen seen_then more first before now seen_first going
+traded_lacked : (first old new : Moment) → IsKnownTrace first.machine.trace → Going first old → LackedEvent old new → TradedBoth first new
+traded_lacked first old new known going l = elim l.did [
+  | inl none ↦ traded_none first old new going none
+  | inr more ↦ traded_more first old new known going more
 ]
 
--- one of two reasons
-pub either_halt : (halt : Halt) (P : Type 0) → (halt ≡ WriteFault → P) → (halt ≡ OutOfMemory → P) → P
-either_halt WriteFault P write memory = write refl
-either_halt OutOfMemory P write memory = memory refl
+-- the event that stopped a replay
+pub event_stops : (first old new : Moment) (h : Halt) → IsKnownTrace first.machine.trace → Going first old → EventStops old new h → ReportStops (replay_between first new) h
+event_stops first old new WriteFault known going e = broke_there first old new known going e.more e.front
+event_stops first old new OutOfMemory known going e = lacked first old new known going e
 
--- the trace is known as long as it is the same
-pub known_now : {first m : MachineView} {before now : Option (List ℕ)} {seen seen_now : Sources} → Going first m before now seen seen_now → IsKnownTrace first.trace → IsKnownTrace m.trace
-known_now going known = subst IsKnownTrace (sym going.same) known
+pub event_trades : (first old new : Moment) (h : Halt) → IsKnownTrace first.machine.trace → Going first old → EventStops old new h → TradedBoth first new
+event_trades first old new WriteFault known going e = traded_more first old new known going e.more
+event_trades first old new OutOfMemory known going e = traded_lacked first old new known going e
 
--- what a result that is fine ensures
-pub at_ok : {T E : Type 0} (r : Result T E) (x : T) (P : Type 0) → r ≡ Ok x → OnOk r P → P
-at_ok (Ok y) x P is h = h
-at_ok (Err e) x P is h = absurd cc
+-- ---- the summary
 
--- what holds of a machine's trace and history holds of those that they are
-pub at_end : (P : List PlainTrack → List Entry → Type 0) (m : MachineView) (trace : Trace) (es : List Entry) → m.trace ≡ trace → es ≡ m.entries → P (tracks_of m) m.entries → P (plain trace).tracks es
-at_end P m trace es same is h = subst (λ (t : Trace). P (plain t).tracks es) same (subst (P (tracks_of m)) (sym is) h)
+module _ (first last : Moment) (out : Stream) (going : Going first last) (whole : IsWhole (tracks_of last.machine) last.machine.entries) where
+  abbrev ended : Moment
+  ended = record last { out = out }
+
+  wrote_summary : Wrote last.out out (summary_text (tracks_of last.machine) last.machine.entries) → RanWhole the_report (replay_between first ended)
+  wrote_summary text = record { legal = going.legal; whole = whole; written = wrote_both first.out last.out out _ _ going.written text; served = going.served }
+
+  broke_summary : BrokeWithin last.out out [] (summary_text (tracks_of last.machine) last.machine.entries) → RanUntilBroken the_report (replay_between first ended)
+  broke_summary front = record {
+    legal = going.legal;
+    broke = inr (record { whole = whole; written = wrote_front first.out last.out out _ _ going.written front });
+    served = going.served;
+  }
+
+  lacked_summary : out ≡ last.out → RanOut the_report (replay_between first ended)
+  lacked_summary kept = record {
+    legal = going.legal;
+    earlier = last.machine.entries;
+    later = [];
+    all = sym (append-nil last.machine.entries);
+    few = omega arith;
+    written = subst (λ (o : Stream). Wrote first.out o (events_text (tracks_of last.machine) last.machine.entries)) (sym kept) going.written;
+    served = served_nearly (tracks_of last.machine) last.machine.entries first.sources last.sources going.served;
+  }
+
+  pub summary_ends : {T : Type 0} (r : Result T Halt) → Tells (summary_text (tracks_of last.machine) last.machine.entries) last.out out r → ReportEnds (replay_between first ended) r
+  summary_ends (Ok done) told = wrote_summary told
+  summary_ends (Err WriteFault) told = broke_summary told
+  summary_ends (Err OutOfMemory) told = lacked_summary told

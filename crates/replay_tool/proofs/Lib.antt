@@ -1,4 +1,6 @@
-pub mod EndLemmas
-pub mod Kept
-pub mod RunLemmas
-pub mod ServedLaws
+mod Ends
+mod Kept
+mod Promises
+mod RunLemmas
+mod ServedLaws
+mod Texts

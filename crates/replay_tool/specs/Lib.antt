@@ -1,7 +1,9 @@
-pub mod Ended
-pub mod Events
 pub mod Input
-pub mod Outcome
+pub mod Promise
 pub mod Refusals
+pub mod Replays
+pub mod Runs
 pub mod Served
+pub mod Status
+pub mod Streams
 pub mod Words

@@ -1,8 +1,11 @@
+//! Reading the input as a trace.
+
 ghost use Rattle.std.specs.Prelude.{◌≡◌, IfOk, IsErrOf};
 ghost use Rattle.trace_model.specs.Known.{IsKnownTrace};
 ghost use Rattle.trace_model.specs.Plain.{plain};
-ghost use Rattle.replay_tool.specs.Input.{IsRead, Why};
-ghost use Rattle.replay_tool.specs.Refusals.{IsInputCause};
+ghost use Rattle.replay_tool.specs.Input.{IsTrace, GaveInBounds};
+ghost use Rattle.replay_tool.specs.Refusals.{IsInputCause, Why};
+ghost use Rattle.replay_tool.specs.Streams.{stream};
 
 use crate::refusal::Refusal;
 use mem_base::Trace;
@@ -20,10 +23,13 @@ pub enum Unread {
 
 /// Reads the whole input as a trace.
 pub fn read_input<I: Source>(alloc: Global, input: &mut I) -> Result<Trace, Unread>
-    ensures read { IfOk result (λ trace. IsRead (I.left input.old) (I.left input.new) (plain trace)) }
+    ensures read { IfOk result (λ trace. IsTrace (stream (I.left input.old) (I.faults input.old))
+        (stream (I.left input.new) (I.faults input.new)) (plain trace)) }
     ensures known { IfOk result IsKnownTrace }
-    ensures refused { (why : Why) → IsErrOf result (Unread.Refused why) →
-        IsInputCause why (I.left input.old) (I.left input.new) (I.faults input.old) (I.faults input.new) }
+    ensures refused { (why : Why) → IsErrOf result (Unread.Refused why) → IsInputCause why
+        (stream (I.left input.old) (I.faults input.old)) (stream (I.left input.new) (I.faults input.new)) }
+    ensures memory { IsErrOf result Unread.OutOfMemory → GaveInBounds
+        (stream (I.left input.old) (I.faults input.old)) (stream (I.left input.new) (I.faults input.new)) }
 {
     let bytes = match read_all(alloc, input, MAX_INPUT) {
         Ok(bytes) => bytes,
@@ -33,7 +39,9 @@ pub fn read_input<I: Source>(alloc: Global, input: &mut I) -> Result<Trace, Unre
     };
     match read_trace(alloc, bytes.as_slice()) {
         Ok(trace) => Ok(trace),
-        Err(TraceError::At { line, cause }) => Err(Unread::Refused(Refusal::Refused(line, cause))),
+        Err(TraceError::At { line, cause }) => {
+            Err(Unread::Refused(Refusal::FaultyLine(line, cause)))
+        }
         Err(TraceError::OutOfMemory) => Err(Unread::OutOfMemory),
     }
 }

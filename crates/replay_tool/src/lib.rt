@@ -3,12 +3,12 @@
 
 mod command;
 mod events;
-#[cfg(test)]
-mod heap_tests;
 mod input;
 mod refusal;
+mod status;
 #[cfg(test)]
 mod tests;
 mod words;
 
 pub use command::{Outcome, run};
+pub use status::Status;

@@ -1,61 +1,42 @@
-ghost use Rattle.std.specs.Prelude.{◌+◌, ◌^◌, ◌<◌, ◌≤◌};
-ghost use Rattle.domain_api.specs.Held.{AreOut};
+//! Runs over streams and sources in memory. The expected texts are worked out by hand.
 
 use crate::run;
 use machine_core::{Machine, Spot};
-use mem_base::{Ask, Grant, History, List, Reply, Step, TextId};
+use mem_base::{Ask, Grant, History, List, Reply, TextId};
+use report_text::push_number;
 use sources::{ArenaSource, MemArenas, MemRaw, RawSource};
 use std::alloc::{AllocError, Global};
 use std::test::Fail;
 use streams::{MemSink, MemSource};
 use trace_reader::read_trace;
 
-// What a run over memory gave: its status, what each source answered in each of its events, how
-// many requests were made of it and how many it refused, and what the sinks received.
+// What a run gave: its status and history, how often the sources of arenas and of raw memory were
+// asked and refused, and what the sinks received.
 #[derive(Drop)]
-pub(crate) struct Given {
-    pub(crate) status: u8,
-    pub(crate) arenas: Vec<Grant>,
-    pub(crate) arenas_asked: u64,
-    pub(crate) arenas_refused: u64,
-    pub(crate) raws: Vec<Ask>,
-    pub(crate) raws_asked: u64,
-    pub(crate) raws_refused: u64,
-    pub(crate) out: Vec<u8>,
-    pub(crate) err: Vec<u8>,
+struct Given {
+    status: u8,
+    history: History,
+    arenas: (u64, u64),
+    raws: (u64, u64),
+    out: Vec<u8>,
+    err: Vec<u8>,
 }
 
-// What the arena source answered in each event.
-fn arena_answers(alloc: Global, history: &History) -> Result<Vec<Grant>, AllocError> {
-    let mut answers = Vec::new(alloc);
-    for entry in history.entries.as_slice() {
-        answers.push(entry.arena)?;
-    }
-    Ok(answers)
-}
-
-// What the raw source answered in each event.
-fn raw_answers(alloc: Global, history: &History) -> Result<Vec<Ask>, AllocError> {
-    let mut answers = Vec::new(alloc);
-    for entry in history.entries.as_slice() {
-        answers.push(entry.raw)?;
-    }
-    Ok(answers)
-}
-
-// A run over an input in memory that fails at a read, and an output that takes so many bytes.
-fn run_over(
-    alloc: Global,
-    word: &str,
-    input: &[u8],
+// A run: its word, its input, which read of it fails, and how many bytes the sinks take.
+#[derive(Clone, Copy)]
+struct Setting<'a> {
+    word: &'a str,
+    input: &'a [u8],
     fail_at: Option<u64>,
-    limit: u64,
+    out_limit: u64,
     err_limit: u64,
-) -> Result<Given, AllocError> {
-    let words = vec![in alloc; String::from_str(alloc, word)?]?;
-    let mut input = MemSource::new(List::from_slice(alloc, input)?, fail_at);
-    let mut out = MemSink::new(alloc, limit)?;
-    let mut err = MemSink::new(alloc, err_limit)?;
+}
+
+fn run_over(alloc: Global, setting: Setting<'_>) -> Result<Given, AllocError> {
+    let words = vec![in alloc; String::from_str(alloc, setting.word)?]?;
+    let mut input = MemSource::new(List::from_slice(alloc, setting.input)?, setting.fail_at);
+    let mut out = MemSink::new(alloc, setting.out_limit)?;
+    let mut err = MemSink::new(alloc, setting.err_limit)?;
     let mut arenas = MemArenas::new(alloc)?;
     let mut raw = MemRaw::new(alloc)?;
     let outcome = run(
@@ -69,131 +50,505 @@ fn run_over(
     );
     Ok(Given {
         status: outcome.status,
-        arenas: arena_answers(alloc, &outcome.history)?,
-        arenas_asked: arenas.asked(),
-        arenas_refused: arenas.refused(),
-        raws: raw_answers(alloc, &outcome.history)?,
-        raws_asked: raw.asked(),
-        raws_refused: raw.refused(),
+        history: outcome.history,
+        arenas: (arenas.asked(), arenas.refused()),
+        raws: (raw.asked(), raw.refused()),
         out: Vec::from_slice(alloc, out.bytes())?,
         err: Vec::from_slice(alloc, err.bytes())?,
     })
 }
 
-pub(crate) fn replay(alloc: Global, input: &[u8]) -> Result<Given, AllocError> {
-    run_over(alloc, "replay", input, None, 262_144, 4096)
+fn replay(alloc: Global, input: &[u8]) -> Result<Given, AllocError> {
+    let setting = Setting {
+        word: "replay",
+        input,
+        fail_at: None,
+        out_limit: 262_144,
+        err_limit: 4096,
+    };
+    run_over(alloc, setting)
 }
 
-// Whether the status is 0 or 1, and the report ends with these lines.
-pub(crate) fn ends_with(given: &Given, status: u8, lines: &[u8]) -> bool {
-    given.status == status && given.err.is_empty() && given.out.as_slice().ends_with(lines)
+// A trace with its whole report, the status, and how often each source was asked and refused.
+#[derive(Clone, Copy)]
+struct Replayed<'a> {
+    trace: &'a [u8],
+    report: &'a [u8],
+    status: u8,
+    arenas: (u64, u64),
+    raws: (u64, u64),
 }
 
-const FIRST: &[u8] =
-    b"pymtrace 1\ntrack t\nacquire\nmalloc m x 4\npoke x 1 6162\npeek x 0 4\npeek x 12 1\nfree m x\npeek x 0 1\nrelease\n";
-
-const FIRST_REPORT: &[u8] =
-    b"1 t acquire = ok\n2 t malloc m x 4 = ok\n3 t poke x 1 6162 = ok\n4 t peek x 0 4 = cd6162cd\n5 t peek x 12 1 = outside\n6 t free m x = ok\n7 t peek x 0 1 = absent\n8 t release = ok\nsummary events 8 status 0\nsummary lock free\nsummary blocks 0 bytes 0\nsummary arenas given 1 back 0 most 1\nsummary traced 0 peak 0\n";
-
-const SUMMARY_OF_NONE: &[u8] =
-    b"summary events 0 status 0\nsummary lock free\nsummary blocks 0 bytes 0\nsummary arenas given 0 back 0 most 0\nsummary traced 0 peak 0\n";
+const FIRST: &[u8] = b"pymtrace 1
+track t
+acquire
+malloc m x 4
+poke x 1 6162
+peek x 0 4
+peek x 12 1
+free m x
+peek x 0 1
+release
+";
 
 #[test]
-fn one_track_over_blocks(rt: HostRuntime) -> Result<(), Fail> {
-    let given = replay(rt.alloc(), FIRST)?;
-    assert_eq!(rt; given.out.as_slice(), FIRST_REPORT);
-    assert_eq!(rt; given.status, 0);
-    assert_eq!(rt; given.arenas.len(), 8);
-    assert!(rt; given.err.is_empty());
-    let none = replay(rt.alloc(), b"pymtrace 1\n")?;
-    assert_eq!(rt; none.out.as_slice(), SUMMARY_OF_NONE);
-    assert_eq!(rt; none.status, 0);
+fn each_trace_prints_its_report(rt: HostRuntime) -> Result<(), Fail> {
+    let rows = [
+        Replayed {
+            trace: b"pymtrace 1\n",
+            report: b"summary events 0 status 0
+summary lock free
+summary blocks 0 bytes 0
+summary arenas given 0 back 0 most 0
+summary traced 0 peak 0
+",
+            status: 0,
+            arenas: (0, 0),
+            raws: (0, 0),
+        },
+        Replayed {
+            trace: FIRST,
+            report: b"1 t acquire = ok
+2 t malloc m x 4 = ok
+3 t poke x 1 6162 = ok
+4 t peek x 0 4 = cd6162cd
+5 t peek x 12 1 = outside
+6 t free m x = ok
+7 t peek x 0 1 = absent
+8 t release = ok
+summary events 8 status 0
+summary lock free
+summary blocks 0 bytes 0
+summary arenas given 1 back 0 most 1
+summary traced 0 peak 0
+",
+            status: 0,
+            arenas: (1, 0),
+            raws: (0, 0),
+        },
+        // Damage behind the data, and the operation after the fault is not done.
+        Replayed {
+            trace: b"pymtrace 1
+track t
+acquire
+malloc m x 32
+poke x 32 00
+free m x
+peek x 0 1
+",
+            report: b"1 t acquire = ok
+2 t malloc m x 32 = ok
+3 t poke x 32 00 = ok
+4 t free m x = fault
+  bad_tail 0
+  block x size 32
+  head 6dfdfdfdfdfdfdfd
+  tail 00fdfdfdfdfdfdfd
+summary events 4 status 1
+summary lock t
+summary blocks 1 bytes 32
+summary arenas given 1 back 0 most 1
+summary traced 0 peak 0
+",
+            status: 1,
+            arenas: (1, 0),
+            raws: (0, 0),
+        },
+        // Damage in front of the data is told before damage behind it.
+        Replayed {
+            trace: b"pymtrace 1
+track t
+acquire
+malloc m x 32
+poke x 32 00
+poke x -7 00
+free m x
+",
+            report: b"1 t acquire = ok
+2 t malloc m x 32 = ok
+3 t poke x 32 00 = ok
+4 t poke x -7 00 = ok
+5 t free m x = fault
+  bad_lead 1
+  block x size 32
+  head 6d00fdfdfdfdfdfd
+  tail 00fdfdfdfdfdfdfd
+summary events 5 status 1
+summary lock t
+summary blocks 1 bytes 32
+summary arenas given 1 back 0 most 1
+summary traced 0 peak 0
+",
+            status: 1,
+            arenas: (1, 0),
+            raws: (0, 0),
+        },
+        // A block of another domain.
+        Replayed {
+            trace: b"pymtrace 1
+track t
+acquire
+malloc m x 8
+free o x
+",
+            report: b"1 t acquire = ok
+2 t malloc m x 8 = ok
+3 t free o x = fault
+  bad_id found 6d verified 6f
+  block x size 8
+  head 6dfdfdfdfdfdfdfd
+  tail fdfdfdfdfdfdfdfd
+summary events 3 status 1
+summary lock t
+summary blocks 1 bytes 8
+summary arenas given 1 back 0 most 1
+summary traced 0 peak 0
+",
+            status: 1,
+            arenas: (1, 0),
+            raws: (0, 0),
+        },
+        // Without the lock: the raw domain needs none, and a size that is too great comes first.
+        Replayed {
+            trace: b"pymtrace 1
+track t
+free r x
+malloc m x 9223372036854775808
+malloc m x 9223372036854775807
+",
+            report: b"1 t free r x = ok
+2 t malloc m x 9223372036854775808 = null
+3 t malloc m x 9223372036854775807 = fault
+  unlocked
+summary events 3 status 1
+summary lock free
+summary blocks 0 bytes 0
+summary arenas given 0 back 0 most 0
+summary traced 0 peak 0
+",
+            status: 1,
+            arenas: (0, 0),
+            raws: (0, 0),
+        },
+        // A free of nothing needs the lock all the same.
+        Replayed {
+            trace: b"pymtrace 1
+track t
+free m x
+",
+            report: b"1 t free m x = fault
+  unlocked
+summary events 1 status 1
+summary lock free
+summary blocks 0 bytes 0
+summary arenas given 0 back 0 most 0
+summary traced 0 peak 0
+",
+            status: 1,
+            arenas: (0, 0),
+            raws: (0, 0),
+        },
+        // Sizes up to 488 with the 24 bytes of the hooks lie in pools, also where there are no data.
+        Replayed {
+            trace: b"pymtrace 1
+track t
+acquire
+malloc m a 488
+malloc m b 489
+malloc o c 0
+heap
+",
+            report: b"1 t acquire = ok
+2 t malloc m a 488 = ok
+3 t malloc m b 489 = ok
+4 t malloc o c 0 = ok
+5 t heap = pool 2 raw 1
+  arena 1 free 62 of 64
+  class 32 used 1:1 full 0
+  class 512 used 1:1 full 0
+summary events 5 status 0
+summary lock free
+summary blocks 3 bytes 977
+summary arenas given 1 back 0 most 1
+summary traced 0 peak 0
+",
+            status: 0,
+            arenas: (1, 0),
+            raws: (1, 0),
+        },
+        // A request whose arena is refused goes to the raw source.
+        Replayed {
+            trace: b"pymtrace 1
+track t
+acquire
+refuse arena 1
+malloc m x 8
+heap
+free m x
+refuse arena 1
+refuse raw 1
+malloc m x 8
+peek x 0 1
+malloc m x 8
+heap
+",
+            report: b"1 t acquire = ok
+2 t refuse arena 1 = ok
+3 t malloc m x 8 = ok
+4 t heap = pool 0 raw 1
+5 t free m x = ok
+6 t refuse arena 1 = ok
+7 t refuse raw 1 = ok
+8 t malloc m x 8 = null
+9 t peek x 0 1 = absent
+10 t malloc m x 8 = ok
+11 t heap = pool 1 raw 0
+  arena 1 free 63 of 64
+  class 32 used 1:1 full 0
+summary events 11 status 0
+summary lock free
+summary blocks 1 bytes 8
+summary arenas given 1 back 0 most 1
+summary traced 0 peak 0
+",
+            status: 0,
+            arenas: (3, 2),
+            raws: (2, 1),
+        },
+        Replayed {
+            trace: b"pymtrace 1
+track t
+refuse raw 1
+malloc r x 8
+malloc r x 8
+peek x 0 2
+free r x
+",
+            report: b"1 t refuse raw 1 = ok
+2 t malloc r x 8 = null
+3 t malloc r x 8 = ok
+4 t peek x 0 2 = cdcd
+5 t free r x = ok
+summary events 5 status 0
+summary lock free
+summary blocks 0 bytes 0
+summary arenas given 0 back 0 most 0
+summary traced 0 peak 0
+",
+            status: 0,
+            arenas: (0, 0),
+            raws: (2, 1),
+        },
+        // The greatest size with its 24 bytes more is the first that a source is asked for.
+        Replayed {
+            trace: b"pymtrace 1
+track t
+acquire
+malloc m x 9223372036854775807
+malloc m x 9223372036854775784
+malloc m x 9223372036854775783
+",
+            report: b"1 t acquire = ok
+2 t malloc m x 9223372036854775807 = null
+3 t malloc m x 9223372036854775784 = null
+4 t malloc m x 9223372036854775783 = null
+summary events 4 status 0
+summary lock free
+summary blocks 0 bytes 0
+summary arenas given 0 back 0 most 0
+summary traced 0 peak 0
+",
+            status: 0,
+            arenas: (0, 0),
+            raws: (1, 1),
+        },
+    ];
+    for (at, row) in rows.iter().enumerate() {
+        let given = replay(rt.alloc(), row.trace)?;
+        assert_eq!(rt; given.out.as_slice(), row.report, "row {at}");
+        assert_eq!(rt; given.status, row.status, "row {at}");
+        assert_eq!(rt; given.arenas, row.arenas, "row {at}");
+        assert_eq!(rt; given.raws, row.raws, "row {at}");
+        assert!(rt; given.err.is_empty(), "row {at}");
+    }
     Ok(())
 }
 
 #[test]
-fn a_fault_names_the_damage(rt: HostRuntime) -> Result<(), Fail> {
+fn the_history_has_the_answers_of_the_sources(rt: HostRuntime) -> Result<(), Fail> {
+    let given = replay(
+        rt.alloc(),
+        b"pymtrace 1\ntrack t\nacquire\nmalloc m a 488\nmalloc m b 489\n",
+    )?;
+    let answers = [
+        (Grant::NotAsked, Ask::NotAsked),
+        (Grant::Granted(64), Ask::NotAsked),
+        (Grant::NotAsked, Ask::Granted),
+    ];
+    assert_eq!(rt; given.history.entries.len(), answers.len());
+    for (entry, (arena, raw)) in given.history.entries.as_slice().iter().zip(answers) {
+        assert_eq!(rt; entry.arena, arena);
+        assert_eq!(rt; entry.raw, raw);
+    }
+    Ok(())
+}
+
+// Adds a line for each of the blocks of these numbers: what stands before the number, and behind.
+fn push_lines(
+    trace: &mut Vec<u8>,
+    (first, last): (u64, u64),
+    before: &[u8],
+    behind: &[u8],
+) -> Result<(), AllocError> {
+    for number in first..=last {
+        trace.extend_from_slice(before)?;
+        push_number(trace, number)?;
+        trace.extend_from_slice(behind)?;
+    }
+    Ok(())
+}
+
+const START: &[u8] = b"pymtrace 1\ntrack t\nacquire\n";
+
+// A pool of a class has room for 510 blocks of 32 bytes.
+fn two_pools_and_two_blocks(alloc: Global) -> Result<Vec<u8>, AllocError> {
+    let mut trace = Vec::from_slice(alloc, START)?;
+    push_lines(&mut trace, (1, 1022), b"malloc m b", b" 8\n")?;
+    trace.extend_from_slice(b"heap\nfree m b1\nheap\n")?;
+    Ok(trace)
+}
+
+// A pool has room for 31 blocks of 512 bytes, so the 64 pools of an arena have room for 1,984.
+fn an_arena_and_a_block(alloc: Global) -> Result<Vec<u8>, AllocError> {
+    let mut trace = Vec::from_slice(alloc, START)?;
+    push_lines(&mut trace, (1, 1985), b"malloc m b", b" 488\n")?;
+    push_lines(&mut trace, (1, 1984), b"free m b", b"\n")?;
+    trace.extend_from_slice(b"heap\nfree m b1985\nheap\n")?;
+    Ok(trace)
+}
+
+// Two arenas and a block, of which a pool of the first arena and two of the second are freed again.
+fn two_arenas_with_free_pools(alloc: Global) -> Result<Vec<u8>, AllocError> {
+    let mut trace = Vec::from_slice(alloc, START)?;
+    push_lines(&mut trace, (1, 3969), b"malloc m b", b" 488\n")?;
+    push_lines(&mut trace, (1, 31), b"free m b", b"\n")?;
+    push_lines(&mut trace, (1985, 2046), b"free m b", b"\n")?;
+    trace.extend_from_slice(b"heap\nmalloc m z 8\nheap\n")?;
+    Ok(trace)
+}
+
+#[test]
+fn heaps_fill_and_empty(rt: HostRuntime) -> Result<(), Fail> {
     let alloc = rt.alloc();
-    let overrun = replay(
-        alloc,
-        b"pymtrace 1\ntrack t\nacquire\nmalloc m x 32\npoke x 32 00\nfree m x\npeek x 0 1\n",
-    )?;
-    assert!(rt;
-        ends_with(
-            &overrun,
-            1,
-            b"3 t poke x 32 00 = ok\n4 t free m x = fault\n  bad_tail 0\n  block x size 32\n  head 6dfdfdfdfdfdfdfd\n  tail 00fdfdfdfdfdfdfd\nsummary events 4 status 1\nsummary lock t\nsummary blocks 1 bytes 32\nsummary arenas given 1 back 0 most 1\nsummary traced 0 peak 0\n"
-        )
-    );
-    let both = replay(
-        alloc,
-        b"pymtrace 1\ntrack t\nacquire\nmalloc m x 32\npoke x 32 00\npoke x -7 00\nfree m x\n",
-    )?;
-    assert!(rt;
-        ends_with(
-            &both,
-            1,
-            b"5 t free m x = fault\n  bad_lead 1\n  block x size 32\n  head 6d00fdfdfdfdfdfd\n  tail 00fdfdfdfdfdfdfd\nsummary events 5 status 1\nsummary lock t\nsummary blocks 1 bytes 32\nsummary arenas given 1 back 0 most 1\nsummary traced 0 peak 0\n"
-        )
-    );
-    let domain = replay(
-        alloc,
-        b"pymtrace 1\ntrack t\nacquire\nmalloc m x 8\nfree o x\n",
-    )?;
-    assert!(rt;
-        ends_with(
-            &domain,
-            1,
-            b"3 t free o x = fault\n  bad_id found 6d verified 6f\n  block x size 8\n  head 6dfdfdfdfdfdfdfd\n  tail fdfdfdfdfdfdfdfd\nsummary events 3 status 1\nsummary lock t\nsummary blocks 1 bytes 8\nsummary arenas given 1 back 0 most 1\nsummary traced 0 peak 0\n"
-        )
-    );
-    let unlocked = replay(
-        alloc,
-        b"pymtrace 1\ntrack t\nfree r x\nmalloc m x 9223372036854775808\nmalloc m x 9223372036854775807\n",
-    )?;
-    assert!(rt;
-        ends_with(
-            &unlocked,
-            1,
-            b"1 t free r x = ok\n2 t malloc m x 9223372036854775808 = null\n3 t malloc m x 9223372036854775807 = fault\n  unlocked\nsummary events 3 status 1\nsummary lock free\nsummary blocks 0 bytes 0\nsummary arenas given 0 back 0 most 0\nsummary traced 0 peak 0\n"
-        )
-    );
+    let rows = [
+        (
+            two_pools_and_two_blocks(alloc)?,
+            b"1024 t heap = pool 1022 raw 0
+  arena 1 free 61 of 64
+  class 32 used 1:2 full 2
+1025 t free m b1 = ok
+1026 t heap = pool 1021 raw 0
+  arena 1 free 61 of 64
+  class 32 used 1:509,1:2 full 1
+summary events 1026 status 0
+summary lock free
+summary blocks 1021 bytes 8168
+summary arenas given 1 back 0 most 1
+summary traced 0 peak 0
+"
+                .as_slice(),
+        ),
+        // An arena goes back, unless it is the last.
+        (
+            an_arena_and_a_block(alloc)?,
+            b"3971 t heap = pool 1 raw 0
+  arena 2 free 63 of 64
+  class 512 used 2:1 full 0
+3972 t free m b1985 = ok
+3973 t heap = pool 0 raw 0
+  arena 2 free 64 of 64
+summary events 3973 status 0
+summary lock free
+summary blocks 0 bytes 0
+summary arenas given 2 back 1 most 2
+summary traced 0 peak 0
+"
+                .as_slice(),
+        ),
+        // A new pool comes from the arena with the fewest free pools.
+        (
+            two_arenas_with_free_pools(alloc)?,
+            b"4064 t heap = pool 3876 raw 0
+  arena 1 free 1 of 64
+  arena 2 free 2 of 64
+  arena 3 free 63 of 64
+  class 512 used 3:1 full 125
+4065 t malloc m z 8 = ok
+4066 t heap = pool 3877 raw 0
+  arena 2 free 2 of 64
+  arena 3 free 63 of 64
+  class 32 used 1:1 full 0
+  class 512 used 3:1 full 125
+summary events 4066 status 0
+summary lock free
+summary blocks 3877 bytes 1891496
+summary arenas given 3 back 0 most 3
+summary traced 0 peak 0
+"
+                .as_slice(),
+        ),
+    ];
+    for (trace, end) in rows {
+        let given = replay(alloc, trace.as_slice())?;
+        assert_eq!(rt; given.status, 0);
+        assert!(rt; given.out.as_slice().ends_with(end));
+    }
     Ok(())
 }
 
 #[test]
 fn a_refusal_is_one_line(rt: HostRuntime) -> Result<(), Fail> {
     let alloc = rt.alloc();
+    let bad_number = b"pymtrace 1\ntrack t\nmalloc m x 007\n".as_slice();
+    let forged = b"pymtrace 1\ntrack t\nacquire\nmalloc m x 8\npoke x -8 6d\n".as_slice();
     let refusals = [
         ("replai", FIRST, None, 2, b"pymtrace: usage\n".as_slice()),
         (
             "replay",
-            b"pymtrace 1\ntrack t\nacquire\nmalloc m x 8\npoke x -8 6d\n".as_slice(),
+            forged,
             None,
             3,
-            b"pymtrace: line 5: ForgedLetter\n".as_slice(),
+            b"pymtrace: line 5: ForgedLetter\n",
         ),
         (
             "replay",
-            b"pymtrace 1\ntrack t\nmalloc m x 007\n".as_slice(),
+            bad_number,
             None,
             3,
-            b"pymtrace: line 3: BadNumber\n".as_slice(),
+            b"pymtrace: line 3: BadNumber\n",
         ),
-        (
-            "replay",
-            FIRST,
-            Some(1),
-            4,
-            b"pymtrace: read fault\n".as_slice(),
-        ),
+        ("replay", FIRST, Some(1), 4, b"pymtrace: read fault\n"),
     ];
     for (word, input, fail_at, status, line) in refusals {
-        let given = run_over(alloc, word, input, fail_at, 4096, 4096)?;
+        let setting = Setting {
+            word,
+            input,
+            fail_at,
+            out_limit: 4096,
+            err_limit: 4096,
+        };
+        let given = run_over(alloc, setting)?;
         assert_eq!(rt; given.status, status);
         assert_eq!(rt; given.err.as_slice(), line);
         assert!(rt; given.out.is_empty());
-        let untold = run_over(alloc, word, input, fail_at, 4096, 9)?;
+        let err_limit = 9;
+        let untold = run_over(
+            alloc,
+            Setting {
+                err_limit,
+                ..setting
+            },
+        )?;
         assert_eq!(rt; untold.status, 5);
         assert_eq!(rt; untold.err.as_slice(), b"pymtrace:".as_slice());
         assert!(rt; untold.out.is_empty());
@@ -204,149 +559,90 @@ fn a_refusal_is_one_line(rt: HostRuntime) -> Result<(), Fail> {
 #[test]
 fn an_input_may_have_so_many_bytes(rt: HostRuntime) -> Result<(), Fail> {
     let alloc = rt.alloc();
-    let longest = vec![in alloc; b'x'; 16_777_216]?;
-    let given = replay(alloc, longest.as_slice())?;
-    assert_eq!(rt; given.status, 3);
-    assert_eq!(rt;
-        given.err.as_slice(),
-        b"pymtrace: line 1: BadEnd\n".as_slice()
-    );
-    let longer = vec![in alloc; b'x'; 16_777_217]?;
-    let given = replay(alloc, longer.as_slice())?;
-    assert_eq!(rt; given.status, 7);
-    assert_eq!(rt;
-        given.err.as_slice(),
-        b"pymtrace: input too long\n".as_slice()
-    );
+    let rows = [
+        (16_777_216, 3, b"pymtrace: line 1: BadEnd\n".as_slice()),
+        (16_777_217, 7, b"pymtrace: input too long\n"),
+    ];
+    for (count, status, line) in rows {
+        let input = vec![in alloc; b'x'; count]?;
+        let given = replay(alloc, input.as_slice())?;
+        assert_eq!(rt; given.status, status);
+        assert_eq!(rt; given.err.as_slice(), line);
+    }
     Ok(())
 }
 
 // The block lies in raw memory, since an arena for each of many runs would take long.
-const RAW: &[u8] =
-    b"pymtrace 1\ntrack t\nmalloc r x 4\npoke x 1 6162\npeek x 0 4\npeek x 12 1\nfree r x\npeek x 0 1\n";
+const RAW: &[u8] = b"pymtrace 1
+track t
+malloc r x 4
+poke x 1 6162
+peek x 0 4
+free r x
+";
 
-const RAW_REPORT: &[u8] =
-    b"1 t malloc r x 4 = ok\n2 t poke x 1 6162 = ok\n3 t peek x 0 4 = cd6162cd\n4 t peek x 12 1 = outside\n5 t free r x = ok\n6 t peek x 0 1 = absent\nsummary events 6 status 0\nsummary lock free\nsummary blocks 0 bytes 0\nsummary arenas given 0 back 0 most 0\nsummary traced 0 peak 0\n";
+const RAW_REPORT: &[u8] = b"1 t malloc r x 4 = ok
+2 t poke x 1 6162 = ok
+3 t peek x 0 4 = cd6162cd
+4 t free r x = ok
+summary events 4 status 0
+summary lock free
+summary blocks 0 bytes 0
+summary arenas given 0 back 0 most 0
+summary traced 0 peak 0
+";
 
 #[test]
 fn a_sink_that_fails_cuts_the_report(rt: HostRuntime) -> Result<(), Fail> {
     let alloc = rt.alloc();
-    for limit in 0..RAW_REPORT.len() {
-        let given = run_over(alloc, "replay", RAW, None, limit as u64, 4096)?;
-        assert_eq!(rt; given.status, 5);
+    for limit in 0..=RAW_REPORT.len() {
+        let setting = Setting {
+            word: "replay",
+            input: RAW,
+            fail_at: None,
+            out_limit: limit as u64,
+            err_limit: 4096,
+        };
+        let given = run_over(alloc, setting)?;
+        let is_whole = limit == RAW_REPORT.len();
+        assert_eq!(rt; given.status, if is_whole { 0 } else { 5 });
         assert_eq!(rt; Some(given.out.as_slice()), RAW_REPORT.get(..limit));
         assert!(rt; given.err.is_empty());
     }
-    let whole = run_over(alloc, "replay", RAW, None, RAW_REPORT.len() as u64, 4096)?;
-    assert_eq!(rt; whole.status, 0);
-    let given = run_over(alloc, "replay", FIRST, None, 30, 4096)?;
-    assert_eq!(rt;
-        given.out.as_slice(),
-        b"1 t acquire = ok\n2 t malloc m ".as_slice()
-    );
-    assert_eq!(rt; given.arenas.len(), 2);
+    // Nothing is done after the event whose text was cut off, which is the second.
+    let setting = Setting {
+        word: "replay",
+        input: RAW,
+        fail_at: None,
+        out_limit: 30,
+        err_limit: 4096,
+    };
+    assert_eq!(rt; run_over(alloc, setting)?.history.entries.len(), 2);
     Ok(())
 }
 
 #[test]
-fn a_refused_request_is_null(rt: HostRuntime) -> Result<(), Fail> {
-    let given = replay(
-        rt.alloc(),
-        b"pymtrace 1\ntrack t\nrefuse raw 1\nmalloc r x 8\nmalloc r x 8\npeek x 0 2\nfree r x\n",
-    )?;
-    assert!(rt;
-        ends_with(
-            &given,
-            0,
-            b"1 t refuse raw 1 = ok\n2 t malloc r x 8 = null\n3 t malloc r x 8 = ok\n4 t peek x 0 2 = cdcd\n5 t free r x = ok\nsummary events 5 status 0\nsummary lock free\nsummary blocks 0 bytes 0\nsummary arenas given 0 back 0 most 0\nsummary traced 0 peak 0\n"
-        )
-    );
-    assert_eq!(rt; given.raws_asked, 2);
-    assert_eq!(rt; given.raws_refused, 1);
-    assert_eq!(rt; given.arenas_asked, 0);
-    Ok(())
-}
-
-#[test]
-fn a_size_is_too_great_before_a_source_is_asked(rt: HostRuntime) -> Result<(), Fail> {
-    let given = replay(
-        rt.alloc(),
-        b"pymtrace 1\ntrack t\nacquire\nmalloc m x 9223372036854775807\nmalloc m x 9223372036854775784\nmalloc m x 9223372036854775783\n",
-    )?;
-    assert!(rt;
-        ends_with(
-            &given,
-            0,
-            b"2 t malloc m x 9223372036854775807 = null\n3 t malloc m x 9223372036854775784 = null\n4 t malloc m x 9223372036854775783 = null\nsummary events 4 status 0\nsummary lock free\nsummary blocks 0 bytes 0\nsummary arenas given 0 back 0 most 0\nsummary traced 0 peak 0\n"
-        )
-    );
-    let answers = [Ask::NotAsked, Ask::NotAsked, Ask::NotAsked, Ask::Refused];
-    assert_eq!(rt; given.raws.as_slice(), answers.as_slice());
-    assert_eq!(rt; given.raws_asked, 1);
-    assert_eq!(rt; given.raws_refused, 1);
-    assert_eq!(rt; given.arenas.as_slice(), [Grant::NotAsked; 4].as_slice());
-    assert_eq!(rt; given.arenas_asked, 0);
-    Ok(())
-}
-
-// The next event of the machine, where there is one.
-fn next_step<A: ArenaSource, R: RawSource>(
-    machine: &mut Machine,
-    arenas: &mut A,
-    raw: &mut R,
-) -> Option<Step>
-    requires held { AreOut machine.old.arenas machine.old.raws (A.seen arenas.old) (R.seen raw.old) }
-    requires arena_count { (A.seen arenas.old).asked < 2 ^ 63 }
-    requires raw_count { (R.seen raw.old).asked < 2 ^ 63 }
-    ensures held { AreOut machine.new.arenas machine.new.raws (A.seen arenas.new) (R.seen raw.new) }
-    ensures arena_count { (A.seen arenas.new).asked ≤ (A.seen arenas.old).asked + 1 }
-    ensures raw_count { (R.seen raw.new).asked ≤ (R.seen raw.old).asked + 1 }
-{
-    if machine.faulted() {
-        return None;
-    }
-    let t = machine.first_ready()?;
-    machine.step(t, arenas, raw).ok()
-}
-
-#[test]
-fn a_machine_does_one_event_at_a_time(rt: HostRuntime) -> Result<(), Fail> {
+fn a_machine_shows_where_its_blocks_lie(rt: HostRuntime) -> Result<(), Fail> {
     let alloc = rt.alloc();
     let mut arenas = MemArenas::new(alloc)?;
     let mut raw = MemRaw::new(alloc)?;
-    let trace = read_trace(alloc, FIRST)?;
-    let mut machine = Machine::new(alloc, trace)?;
+    let mut machine = Machine::new(alloc, read_trace(alloc, RAW)?)?;
     assert_eq!(rt; machine.trace().tracks.len(), 1);
     assert_eq!(rt; machine.texts().find(b"x").map(|id| id.0), Some(2));
-    assert!(rt; machine.ready(0));
-    assert_eq!(rt; machine.first_ready(), Some(0));
-    let first = next_step(&mut machine, &mut arenas, &mut raw);
-    assert!(rt; first.is_some_and(|step| step.reply == Reply::Ok));
-    let second = next_step(&mut machine, &mut arenas, &mut raw);
-    assert!(rt;
-        second.is_some_and(|step| step.entry.arena == Grant::Granted(64)
-            && step.entry.raw == Ask::NotAsked)
-    );
-    let totals = machine.totals();
-    assert_eq!(rt; totals.events, 2);
-    assert_eq!(rt; totals.owner, Some(0));
-    assert_eq!(rt; totals.blocks, 1);
-    assert_eq!(rt; totals.bytes, 4);
-    assert_eq!(rt; machine.history().entries.len(), 2);
     assert!(rt; !machine.faulted());
-
+    assert!(rt; machine.ready(0));
+    let step = machine.step(0, &mut arenas, &mut raw);
     let spots = machine.places();
-    assert_eq!(rt; machine.end(&mut arenas, &mut raw).entries.len(), 2);
-
-    // The block had 4 bytes of data and the 24 of its pads, and so the 32 of its class. It was the
-    // first of the first pool, past the 48 bytes of that pool's header.
+    assert_eq!(rt; machine.end(&mut arenas, &mut raw).entries.len(), 1);
+    let step = step?;
+    assert!(rt; step.reply == Reply::Ok);
+    assert!(rt; step.entry.raw == Ask::Granted);
+    // The block had 4 bytes of data and the 24 of its pads, and was the first raw region.
     let spot = Spot {
         name: TextId(2),
-        place: 0x1000_0000_0030,
-        len: 32,
+        place: 0x2000_0000_0000,
+        len: 28,
     };
     assert!(rt; spots?.as_slice() == [spot].as_slice());
-    assert_eq!(rt; arenas.asked(), 1);
-    assert_eq!(rt; raw.asked(), 0);
     Ok(())
 }

@@ -1,1 +1,1 @@
-pub mod ReportLaws
+pub mod CallerLemmas

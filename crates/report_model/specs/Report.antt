@@ -1,19 +1,23 @@
 -- The texts of events, the summary, and the report of a history.
-use Rattle.std.specs.Prelude.{ℕ, ◌+◌, if◌then◌else◌, List, [], ◌∷◌, ◌++◌, map, slice_get, Option, Some, None, codes, decimal}
+use Rattle.std.specs.Prelude.{ℕ, ◌+◌, if◌then◌else◌, List, [], ◌∷◌, ◌++◌, map, slice_get, unwrap_or, Option, Some, None, codes, decimal}
 use Rattle.std.specs.List.{flat_map, join_with_byte}
 use Rattle.mem_base.specs.declared.history.Entry.{Entry}
 use Rattle.mem_base.specs.declared.reply.ArenaLine.{ArenaLine}
+use Rattle.mem_base.specs.declared.reply.BlockReport.{BlockReport}
 use Rattle.mem_base.specs.declared.reply.ClassLine.{ClassLine}
 use Rattle.mem_base.specs.declared.reply.Fault.{Fault}
 use Rattle.mem_base.specs.declared.reply.Fault.TheVariants.{Unlocked, BadId, BadLead, BadTail}
 use Rattle.mem_base.specs.declared.reply.Totals.{Totals}
 use Rattle.mem_base.specs.declared.reply.UsedPool.{UsedPool}
 use Rattle.mem_base.specs.declared.reply.View.{View}
-use Rattle.trace_model.specs.Plain.{Name, Action, acquire, release, malloc, free, poke, peek, heap, refuse, other, PlainTrack}
-use Rattle.trace_model.specs.Spelling.{line_of, hex_word, blank, line_end}
-use Rattle.event_model.specs.Effects.{State, PlainReply, ok, null, busy, absent, outside, held, not_held, bytes, shape, fault, unsaid}
+use Rattle.mem_base.specs.Name.{Name}
+use Rattle.trace_model.specs.Plain.{Action, PlainTrack, name_of}
+use Rattle.trace_model.specs.Operands.{hex_word}
+use Rattle.trace_model.specs.Spelling.{line_of, blank, line_end}
 use Rattle.event_model.specs.Events.{next_action, event}
 use Rattle.event_model.specs.History.{opening, last_state, totals_of}
+use Rattle.event_model.specs.Replies.{PlainReply, ok, null, busy, absent, outside, held, not_held, bytes, shape, fault, unsaid}
+use Rattle.event_model.specs.State.{State}
 
 -- ---- the text of an event
 
@@ -21,6 +25,7 @@ use Rattle.event_model.specs.History.{opening, last_state, totals_of}
 unfoldable pub shape_word : View → List ℕ
 shape_word v = codes "pool " ++ decimal v.pooled ++ codes " raw " ++ decimal v.raws
 
+-- what stands behind the equals sign; a reply that no operation gives has no word
 abbrev pub reply_word : PlainReply → List ℕ
 reply_word ok = codes "ok"
 reply_word null = codes "null"
@@ -36,12 +41,16 @@ reply_word unsaid = []
 
 -- the number of the event, the track, the line of the trace, and the reply
 unfoldable pub event_line : ℕ → Name → Action → PlainReply → List ℕ
-event_line number track action reply = decimal number ++ blank ∷ track ++ blank ∷ line_of action ++ codes " = " ++ reply_word reply ++ line_end ∷ []
+event_line number track action reply =
+    decimal number ++ blank ∷ track ++ blank ∷ line_of action
+    ++ codes " = " ++ reply_word reply ++ line_end ∷ []
 
 -- what was found
 unfoldable pub fault_line : Fault → List ℕ
 fault_line Unlocked = codes "  unlocked\n"
-fault_line (BadId found verified) = codes "  bad_id found " ++ hex_word (found ∷ []) ++ codes " verified " ++ hex_word (verified ∷ []) ++ line_end ∷ []
+fault_line (BadId found verified) =
+    codes "  bad_id found " ++ hex_word (found ∷ []) ++ codes " verified " ++ hex_word (verified ∷ [])
+    ++ line_end ∷ []
 fault_line (BadLead k) = codes "  bad_lead " ++ decimal k ++ line_end ∷ []
 fault_line (BadTail k) = codes "  bad_tail " ++ decimal k ++ line_end ∷ []
 
@@ -59,7 +68,9 @@ tail_line tail = codes "  tail " ++ hex_word tail ++ line_end ∷ []
 
 -- an arena with free pools: its number, its free pools, and all its pools
 unfoldable pub arena_line : ArenaLine → List ℕ
-arena_line a = codes "  arena " ++ decimal a.id ++ codes " free " ++ decimal a.free ++ codes " of " ++ decimal a.total ++ line_end ∷ []
+arena_line a =
+    codes "  arena " ++ decimal a.id ++ codes " free " ++ decimal a.free ++ codes " of " ++ decimal a.total
+    ++ line_end ∷ []
 
 -- a pool with free blocks: its arena's number, and its blocks in use
 unfoldable pub pool_word : UsedPool → List ℕ
@@ -72,33 +83,44 @@ pools_word (p ∷ ps) = join_with_byte 44 (map pool_word (p ∷ ps))
 
 -- a class: the size of its blocks, its pools with free blocks, and how many pools are full
 unfoldable pub class_line : ClassLine → List ℕ
-class_line c = codes "  class " ++ decimal c.size ++ codes " used " ++ pools_word c.used ++ codes " full " ++ decimal c.full ++ line_end ∷ []
+class_line c =
+    codes "  class " ++ decimal c.size ++ codes " used " ++ pools_word c.used
+    ++ codes " full " ++ decimal c.full ++ line_end ∷ []
 
+-- a line for each usable arena, and then one for each class that has a pool
 abbrev pub shape_lines : View → List ℕ
 shape_lines v = flat_map arena_line v.arenas ++ flat_map class_line v.classes
 
--- the lines below that of the event: the heap's arenas and classes, or those of a fault, in a block of this name
+-- the lines of a fault, and of the block that it was found in, which has this name
+abbrev pub fault_lines : Name → Fault → Option BlockReport → List ℕ
+fault_lines name found None = fault_line found
+fault_lines name found (Some block) =
+    fault_line found ++ block_line name block.size ++ head_line block.head ++ tail_line block.tail
+
+-- the lines below that of the event, which is on the block of this name
 abbrev pub more_lines : Name → PlainReply → List ℕ
+more_lines name ok = []
+more_lines name null = []
+more_lines name busy = []
+more_lines name absent = []
+more_lines name outside = []
+more_lines name held = []
+more_lines name not_held = []
+more_lines name (bytes found) = []
 more_lines name (shape v) = shape_lines v
-more_lines name (fault found None) = fault_line found
-more_lines name (fault found (Some block)) = fault_line found ++ block_line name block.size ++ head_line block.head ++ tail_line block.tail
-more_lines name reply = []
+more_lines name (fault found block) = fault_lines name found block
+more_lines name unsaid = []
 
--- the block that an operation is on
+-- the name of the block that an operation is on, where it is on one
 abbrev pub block_name : Action → Name
-block_name acquire = []
-block_name release = []
-block_name (malloc letter name size) = name
-block_name (free letter name) = name
-block_name (poke name offset new) = name
-block_name (peek name offset count) = name
-block_name heap = []
-block_name (refuse side number) = []
-block_name other = []
+block_name action = unwrap_or (name_of action) []
 
+-- all lines of an event
 abbrev pub event_lines : ℕ → Name → Action → PlainReply → List ℕ
-event_lines number track action reply = event_line number track action reply ++ more_lines (block_name action) reply
+event_lines number track action reply =
+    event_line number track action reply ++ more_lines (block_name action) reply
 
+-- the same, where there are that track and that operation
 abbrev pub lines_for : ℕ → Option PlainTrack → Option Action → PlainReply → List ℕ
 lines_for number (Some track) (Some action) reply = event_lines number track.name action reply
 lines_for number (Some track) None reply = []
@@ -106,48 +128,69 @@ lines_for number None action reply = []
 
 -- the text of the event with that number, which is the entry's
 abbrev pub event_text : List PlainTrack → ℕ → State → Entry → List ℕ
-event_text tracks number s e = lines_for number (slice_get tracks e.track) (next_action tracks s e.track) (event tracks s e).1
+event_text tracks number s e =
+    lines_for number (slice_get tracks e.track) (next_action tracks s e.track) (event tracks s e).1
 
--- the texts of events, the first of which has that number
-abbrev pub texts_from : List PlainTrack → ℕ → State → List Entry → List ℕ
-texts_from tracks number s [] = []
-texts_from tracks number s (e ∷ es) = event_text tracks number s e ++ texts_from tracks (number + 1) (event tracks s e).0 es
+-- what a run prints of one event, by its number, the state before it and its entry
+abbrev pub Printer : Type 0
+Printer = ℕ → State → Entry → List ℕ
+
+-- what it prints of events, the first of which has that number and comes after that state
+abbrev pub texts_from : Printer → List PlainTrack → ℕ → State → List Entry → List ℕ
+texts_from text tracks number s [] = []
+texts_from text tracks number s (e ∷ es) =
+    text number s e ++ texts_from text tracks (number + 1) (event tracks s e).0 es
+
+-- what it prints of all events of a history
+abbrev pub texts_of : Printer → List PlainTrack → List Entry → List ℕ
+texts_of text tracks es = texts_from text tracks 1 (opening tracks) es
 
 -- the texts of all events of a history
 abbrev pub events_text : List PlainTrack → List Entry → List ℕ
-events_text tracks es = texts_from tracks 1 (opening tracks) es
+events_text tracks es = texts_of (event_text tracks) tracks es
 
 -- ---- the summary
 
-abbrev pub name_of : Option PlainTrack → Name
-name_of None = []
-name_of (Some track) = track.name
+abbrev pub track_name : Option PlainTrack → Name
+track_name None = []
+track_name (Some track) = track.name
 
 -- the name of the track that owns the lock
 abbrev pub owner_word : List PlainTrack → Option ℕ → List ℕ
 owner_word tracks None = codes "free"
-owner_word tracks (Some t) = name_of (slice_get tracks t)
+owner_word tracks (Some t) = track_name (slice_get tracks t)
 
+-- how many events there were, and the status that the run ends with
 unfoldable pub events_line : ℕ → ℕ → List ℕ
-events_line events status = codes "summary events " ++ decimal events ++ codes " status " ++ decimal status ++ line_end ∷ []
+events_line events status =
+    codes "summary events " ++ decimal events ++ codes " status " ++ decimal status ++ line_end ∷ []
 
+-- who owns the lock
 unfoldable pub lock_line : List ℕ → List ℕ
 lock_line owner = codes "summary lock " ++ owner ++ line_end ∷ []
 
+-- how many blocks are held, and how many bytes of data they have
 unfoldable pub blocks_line : ℕ → ℕ → List ℕ
-blocks_line blocks size = codes "summary blocks " ++ decimal blocks ++ codes " bytes " ++ decimal size ++ line_end ∷ []
+blocks_line blocks size =
+    codes "summary blocks " ++ decimal blocks ++ codes " bytes " ++ decimal size ++ line_end ∷ []
 
+-- how many arenas were granted, how many went back, and how many were out at once
 unfoldable pub arenas_line : ℕ → ℕ → ℕ → List ℕ
-arenas_line given back most = codes "summary arenas given " ++ decimal given ++ codes " back " ++ decimal back ++ codes " most " ++ decimal most ++ line_end ∷ []
+arenas_line given back most =
+    codes "summary arenas given " ++ decimal given ++ codes " back " ++ decimal back
+    ++ codes " most " ++ decimal most ++ line_end ∷ []
 
+-- how many bytes are traced, and the most that were
 unfoldable pub traced_line : ℕ → ℕ → List ℕ
-traced_line traced peak = codes "summary traced " ++ decimal traced ++ codes " peak " ++ decimal peak ++ line_end ∷ []
+traced_line traced peak =
+    codes "summary traced " ++ decimal traced ++ codes " peak " ++ decimal peak ++ line_end ∷ []
 
 -- the five lines of these numbers and this status
 abbrev pub summary_lines : List ℕ → Totals → ℕ → List ℕ
 summary_lines owner totals status =
     events_line totals.events status ++ lock_line owner ++ blocks_line totals.blocks totals.bytes
-    ++ arenas_line totals.counts.given totals.counts.back totals.counts.most ++ traced_line totals.traced totals.peak
+    ++ arenas_line totals.counts.given totals.counts.back totals.counts.most
+    ++ traced_line totals.traced totals.peak
 
 -- the status of a run that led to this state: 1 where a fault came
 abbrev pub status_in : State → ℕ
@@ -156,7 +199,8 @@ status_in s = if s.faulted then 1 else 0
 -- the summary of a history
 abbrev pub summary_text : List PlainTrack → List Entry → List ℕ
 summary_text tracks es =
-    let s = last_state tracks es in summary_lines (owner_word tracks s.owner) (totals_of tracks es) (status_in s)
+    let s = last_state tracks es in
+    summary_lines (owner_word tracks s.held.owner) (totals_of tracks es) (status_in s)
 
 -- the texts of all events, and then the summary
 abbrev pub report : List PlainTrack → List Entry → List ℕ

@@ -1,5 +1,12 @@
 -- Pieces that were appended one after the other.
-use Rattle.std.proofs.Common.{◌≡◌, ℕ, List, ◌++◌, ap, ◌∙◌, append_assoc}
+use Rattle.std.proofs.Common.{◌≡◌, ℕ, List, ◌++◌, Result, Ok, Err, ap, ◌∙◌, append_assoc}
+use Rattle.std.specs.Prelude.{OnOk}
+
+-- a line, and then what is printed below it of a block of this name
+pub then_more : {E : Type 0} (r : Result (Unit {0}) E) (old mid new line name block : List ℕ) (more : List ℕ → List ℕ) → mid ≡ old ++ line → name ≡ block → OnOk r (new ≡ mid ++ more name)
+    → OnOk r (new ≡ old ++ (line ++ more block))
+then_more (Ok u) old mid new line name block more first same last = last ∙ (λ i. first i ++ more (same i)) ∙ append_assoc old line (more block)
+then_more (Err e) old mid new line name block more first same last = tt
 
 pub three : (old o1 o2 o3 a b c : List ℕ) → o1 ≡ old ++ a → o2 ≡ o1 ++ b → o3 ≡ o2 ++ c → o3 ≡ old ++ ((a ++ b) ++ c)
 three old o1 o2 o3 a b c e1 e2 e3 =

@@ -12,7 +12,8 @@ use Rattle.report_model.specs.Report.{lines_for, owner_word, summary_lines}
 abbrev pub step_text : Trace → ℕ → Step → List ℕ
 step_text trace number step =
     let tracks = (plain trace).tracks in
-    lines_for number (slice_get tracks step.entry.track) (action_after tracks step.entry.track step.entry.at) (plain_reply step.reply)
+    lines_for number (slice_get tracks step.entry.track) (action_after tracks step.entry.track step.entry.at)
+    (plain_reply trace.texts step.reply)
 
 -- the summary of these numbers and this status, with the name of the lock's owner
 abbrev pub summary_of : Trace → Totals → ℕ → List ℕ

@@ -1,10 +1,11 @@
 //! The text of an event: its line, and below it the shape of a heap or what a fault found.
-ghost use Rattle.std.specs.Prelude.{◌≡◌, ◌++◌, IfOk, OnOk, IsSome};
+ghost use Rattle.std.specs.Prelude.{◌≡◌, ◌++◌, List, IfOk, OnOk, IsSome, Some};
 ghost use Rattle.std.specs.List.{flat_map};
+ghost use Rattle.mem_base.specs.Name.{Name};
 ghost use Rattle.trace_model.specs.Plain.{action_of, text_at};
 ghost use Rattle.trace_model.specs.Known.{IsKnown, IsKnownOp, IsKnownTrace, op_at};
 ghost use Rattle.event_model.specs.Replies.{plain_reply};
-ghost use Rattle.report_model.specs.Report.{reply_word, event_line, event_lines, fault_line, block_line, head_line, tail_line, shape_word, arena_line, pool_word, pools_word, class_line, shape_lines, more_lines, block_name};
+ghost use Rattle.report_model.specs.Report.{reply_word, event_line, event_lines, fault_line, block_line, head_line, tail_line, shape_word, arena_line, pool_word, pools_word, class_line, shape_lines, fault_lines, more_lines, block_name};
 ghost use Rattle.report_text.specs.Texts.{step_text};
 
 use crate::words::{push_hex, push_name, push_number, push_op};
@@ -13,6 +14,7 @@ use mem_base::{
     UsedPool, View,
 };
 use std::alloc::{AllocError, Global};
+use trace_model::name_of;
 
 // ---- the line of an event
 
@@ -28,7 +30,7 @@ fn push_shape(text: &mut Vec<u8>, view: &View) -> Result<(), AllocError>
 }
 
 fn push_reply(text: &mut Vec<u8>, reply: &Reply) -> Result<(), AllocError>
-    ensures { OnOk result (text.new.items ≡ text.old.items ++ reply_word (plain_reply reply.now)) }
+    ensures { (texts : List Name) → OnOk result (text.new.items ≡ text.old.items ++ reply_word (plain_reply texts reply.now)) }
 {
     match reply {
         Reply::Ok => text.extend_from_slice(b"ok"),
@@ -41,7 +43,15 @@ fn push_reply(text: &mut Vec<u8>, reply: &Reply) -> Result<(), AllocError>
         Reply::Bytes(bytes) => push_hex(text, bytes.as_slice()),
         Reply::Heap(view) => push_shape(text, view),
         Reply::Fault(_, _) => text.extend_from_slice(b"fault"),
-        _ => Ok(()),
+        Reply::NotTracing
+        | Reply::NoSnapshot
+        | Reply::Untraced
+        | Reply::Traced(_, _)
+        | Reply::Kept(_)
+        | Reply::Frames(_, _)
+        | Reply::Groups(_, _)
+        | Reply::Diffs(_, _)
+        | Reply::Dumped(_) => Ok(()),
     }
 }
 
@@ -58,7 +68,7 @@ fn push_event_line(
     requires track { IsKnown texts.now track }
     requires op { IsKnownOp texts.now op.now }
     ensures { OnOk result (text.new.items ≡ text.old.items
-        ++ event_line number (text_at texts.now track) (action_of texts.now op.now) (plain_reply reply.now)) }
+        ++ event_line number (text_at texts.now track) (action_of texts.now op.now) (plain_reply texts.now reply.now)) }
 {
     push_number(text, number)?;
     push_name(text, texts, track)?;
@@ -219,8 +229,7 @@ fn push_block(
     name: &[u8],
     block: &BlockReport,
 ) -> Result<(), AllocError>
-    ensures { OnOk result (text.new.items ≡ text.old.items
-        ++ (fault_line fault ++ block_line name.now block.now.size ++ head_line block.now.head ++ tail_line block.now.tail)) }
+    ensures { OnOk result (text.new.items ≡ text.old.items ++ fault_lines name.now fault (Some block.now)) }
 {
     push_fault_line(text, fault)?;
     push_block_line(text, name, block.size)?;
@@ -230,27 +239,42 @@ fn push_block(
 
 // ---- the whole text
 
-// The name of the block that an operation is on.
+// The name of the block that an operation is on, where it is on one.
 fn name_of_block<'a>(texts: &'a Texts, op: &Op) -> &'a [u8]
     requires { IsKnownOp texts.now op.now }
     ensures { result.now ≡ block_name (action_of texts.now op.now) }
 {
-    match op {
-        Op::Malloc(_, name, _) | Op::Free(_, name) | Op::Poke(name, _, _) | Op::Peek(name, _, _) =>
-            { texts.get(*name) }
-        _ => b"",
+    match name_of(op) {
+        Some(name) => texts.get(name),
+        None => b"",
     }
 }
 
 // The lines below that of the event.
 fn push_more_lines(text: &mut Vec<u8>, name: &[u8], reply: &Reply) -> Result<(), AllocError>
-    ensures { OnOk result (text.new.items ≡ text.old.items ++ more_lines name.now (plain_reply reply.now)) }
+    ensures { (texts : List Name) → OnOk result (text.new.items ≡ text.old.items ++ more_lines name.now (plain_reply texts reply.now)) }
 {
     match reply {
         Reply::Heap(view) => push_shape_lines(text, view),
         Reply::Fault(fault, None) => push_fault_line(text, *fault),
         Reply::Fault(fault, Some(block)) => push_block(text, *fault, name, block),
-        _ => Ok(()),
+        Reply::Ok
+        | Reply::Null
+        | Reply::Busy
+        | Reply::Absent
+        | Reply::Outside
+        | Reply::Held
+        | Reply::NotHeld
+        | Reply::NotTracing
+        | Reply::NoSnapshot
+        | Reply::Untraced
+        | Reply::Bytes(_)
+        | Reply::Traced(_, _)
+        | Reply::Kept(_)
+        | Reply::Frames(_, _)
+        | Reply::Groups(_, _)
+        | Reply::Diffs(_, _)
+        | Reply::Dumped(_) => Ok(()),
     }
 }
 
@@ -266,7 +290,7 @@ fn push_event_lines(
     requires track { IsKnown texts.now track }
     requires op { IsKnownOp texts.now op.now }
     ensures { OnOk result (text.new.items ≡ text.old.items
-        ++ event_lines number (text_at texts.now track) (action_of texts.now op.now) (plain_reply reply.now)) }
+        ++ event_lines number (text_at texts.now track) (action_of texts.now op.now) (plain_reply texts.now reply.now)) }
 {
     push_event_line(text, texts, number, track, op, reply)?;
     push_more_lines(text, name_of_block(texts, op), reply)

@@ -1,13 +1,16 @@
-//! Numbers, bytes, names, and the words of operations.
+//! Numbers, bytes, names, and the words of operations. An operation's line is spelt here as the trace
+//! that was read spells it, with keywords from the one table of `trace_model`.
 ghost use Rattle.std.specs.Prelude.{◌≡◌, ◌++◌, ◌∷◌, ◌<◌, OnOk, decimal};
 ghost use Rattle.std.specs.Fmt.{signed_decimal};
-ghost use Rattle.trace_model.specs.Plain.{action_of, text_at, refuse};
+ghost use Rattle.trace_model.specs.Operands.{hex_word, letter_word, side_word, glyph};
+ghost use Rattle.trace_model.specs.Plain.{action_of, keyword_text, text_at, refuse};
 ghost use Rattle.trace_model.specs.Known.{IsKnown, IsKnownOp};
-ghost use Rattle.trace_model.specs.Spelling.{line_of, hex_word, letter_word, side_word, blank, glyph};
+ghost use Rattle.trace_model.specs.Spelling.{line_of, blank};
 
 use itoa::Buffer;
 use mem_base::{Letter, Op, Side, TextId, Texts};
 use std::alloc::AllocError;
+use trace_model::Keyword;
 
 // ---- numbers and bytes
 
@@ -51,6 +54,13 @@ pub(crate) fn push_hex(text: &mut Vec<u8>, bytes: &[u8]) -> Result<(), AllocErro
 
 // ---- operations
 
+// The keyword of an operation, which its line begins with.
+fn push_keyword(text: &mut Vec<u8>, keyword: Keyword) -> Result<(), AllocError>
+    ensures { OnOk result (text.new.items ≡ text.old.items ++ keyword_text keyword) }
+{
+    text.extend_from_slice(keyword.word().as_bytes())
+}
+
 // A blank and the letter of a domain.
 fn push_letter(text: &mut Vec<u8>, letter: Letter) -> Result<(), AllocError>
     ensures { OnOk result (text.new.items ≡ text.old.items ++ blank ∷ letter_word letter) }
@@ -83,7 +93,7 @@ fn push_side(text: &mut Vec<u8>, side: Side) -> Result<(), AllocError>
 fn push_refusal(text: &mut Vec<u8>, side: Side, number: u64) -> Result<(), AllocError>
     ensures { OnOk result (text.new.items ≡ text.old.items ++ line_of (refuse side number)) }
 {
-    text.extend_from_slice(b"refuse")?;
+    push_keyword(text, Keyword::Refuse)?;
     push_side(text, side)?;
     text.push(b' ')?;
     push_number(text, number)
@@ -95,22 +105,22 @@ pub(crate) fn push_op(text: &mut Vec<u8>, texts: &Texts, op: &Op) -> Result<(), 
     ensures { OnOk result (text.new.items ≡ text.old.items ++ line_of (action_of texts.now op.now)) }
 {
     match op {
-        Op::Acquire => text.extend_from_slice(b"acquire"),
-        Op::Release => text.extend_from_slice(b"release"),
+        Op::Acquire => push_keyword(text, Keyword::Acquire),
+        Op::Release => push_keyword(text, Keyword::Release),
         Op::Malloc(letter, name, size) => {
-            text.extend_from_slice(b"malloc")?;
+            push_keyword(text, Keyword::Malloc)?;
             push_letter(text, *letter)?;
             push_name(text, texts, *name)?;
             text.push(b' ')?;
             push_number(text, *size)
         }
         Op::Free(letter, name) => {
-            text.extend_from_slice(b"free")?;
+            push_keyword(text, Keyword::Free)?;
             push_letter(text, *letter)?;
             push_name(text, texts, *name)
         }
         Op::Poke(name, offset, bytes) => {
-            text.extend_from_slice(b"poke")?;
+            push_keyword(text, Keyword::Poke)?;
             push_name(text, texts, *name)?;
             text.push(b' ')?;
             push_offset(text, offset)?;
@@ -118,15 +128,32 @@ pub(crate) fn push_op(text: &mut Vec<u8>, texts: &Texts, op: &Op) -> Result<(), 
             push_hex(text, bytes.as_slice())
         }
         Op::Peek(name, offset, count) => {
-            text.extend_from_slice(b"peek")?;
+            push_keyword(text, Keyword::Peek)?;
             push_name(text, texts, *name)?;
             text.push(b' ')?;
             push_offset(text, offset)?;
             text.push(b' ')?;
             push_number(text, *count)
         }
-        Op::Heap => text.extend_from_slice(b"heap"),
+        Op::Heap => push_keyword(text, Keyword::Heap),
         Op::Refuse(side, number) => push_refusal(text, *side, *number),
-        _ => unreachable!(),
+        Op::Calloc(_, _, _, _)
+        | Op::Realloc(_, _, _)
+        | Op::Enter(_, _)
+        | Op::Line(_)
+        | Op::Leave
+        | Op::Start(_)
+        | Op::Stop
+        | Op::Clear
+        | Op::ResetPeak
+        | Op::Traced
+        | Op::Mark(_, _, _)
+        | Op::Unmark(_, _)
+        | Op::Origin(_)
+        | Op::Snapshot(_)
+        | Op::Keep(_, _, _)
+        | Op::Stats(_, _, _, _)
+        | Op::Compare(_, _, _, _, _)
+        | Op::Dump(_) => unreachable!(),
     }
 }

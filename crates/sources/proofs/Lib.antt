@@ -1,4 +1,4 @@
-pub mod Holders
-pub mod Plans
-pub mod Rows
-pub mod Slots
+pub mod CallerLemmas
+mod Plans
+mod Rows
+mod Slots

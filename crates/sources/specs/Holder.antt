@@ -26,8 +26,17 @@ module _ {S : Type 0} where
     pub refused : new.refused ≡ old.refused + refusals
     pub heeded : asks ≡ 1 → IsPlanned old.plan (old.asked + 1) → refusals ≡ 1
 
-  -- at most one request was made, which may have been refused
-  pub record AskedOnce (old new : SourceView S) : Type 0 where
-    pub asked : (old.asked ≤ new.asked) × (new.asked ≤ old.asked + 1)
-    pub refused : (old.refused ≤ new.refused) × (new.refused ≤ old.refused + 1)
+  -- at most one request was made, and at most that one was refused
+  pub record AskedAtMostOnce (old new : SourceView S) : Type 0 where
+    pub asks : ℕ
+    pub refusals : ℕ
+    pub few : (refusals ≤ asks) × (asks ≤ 1)
+    pub answered : Answered asks refusals old new
+    pub plan : new.plan ≡ old.plan
+
+  -- at most one request was made, and it was not refused
+  pub record AskedUnrefused (old new : SourceView S) : Type 0 where
+    pub asks : ℕ
+    pub few : asks ≤ 1
+    pub answered : Answered asks 0 old new
     pub plan : new.plan ≡ old.plan

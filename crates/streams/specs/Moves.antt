@@ -7,11 +7,6 @@ abbrev pub IsZeroAtEnd : Option (List ℕ) → ℕ → Type 0
 IsZeroAtEnd None n = ⊤
 IsZeroAtEnd (Some xs) n = (n ≡ 0) ↔ (xs ≡ [])
 
--- some bytes were given
-pub record Gave (old new : Option (List ℕ)) : Type 0 where
-  pub given : List ℕ
-  pub gone : Consumes old new given
-
 -- some bytes were given, at most so many
 pub record GaveWithin (old new : Option (List ℕ)) (max : ℕ) : Type 0 where
   pub given : List ℕ

@@ -13,14 +13,9 @@ pub record MemSinkView : Type 0 where
   pub limit : ℕ
   pub faults : ℕ
 
--- a reader: what it tells of the bytes left, and how often it failed
-pub record ReaderView : Type 0 where
-  pub left : Option (List ℕ)
-  pub faults : ℕ
-
--- a writer: what it tells of the bytes written, and how often it failed
-pub record WriterView : Type 0 where
-  pub written : Option (List ℕ)
+-- a reader or a writer, and how often it failed
+pub record CountedView (T : Type 0) : Type 0 where
+  pub inner : T
   pub faults : ℕ
 
 -- at which of the calls to come a source fails once it was called again

@@ -3,8 +3,8 @@
 ghost use Rattle.std.specs.Prelude.{◌≡◌, ◌<◌, ◌≤◌, ◌⊎◌, ℕ, length, Some, MatchResult, IfOk, OnOk, OnErr, IsErrOf};
 ghost use Rattle.std.specs.Io.KnownBytes.{Consumes, Appends, IsAtEnd};
 ghost use Rattle.streams.specs.declared.all.ReadError.TheVariants.{Failed as ReadFailed, OutOfMemory};
-ghost use Rattle.streams.specs.Faults.{Rose, HasCause};
-ghost use Rattle.streams.specs.Moves.{Gave, GaveWithin, GavePast, IsToldPast, WroteFront};
+ghost use Rattle.streams.specs.Faults.{CountsFaults, faults_after};
+ghost use Rattle.streams.specs.Moves.{GaveWithin, GavePast, IsToldPast, WroteFront};
 
 use crate::{Failed, Sink, Source};
 use mem_base::List;
@@ -49,39 +49,34 @@ pub fn read_all<I: Source>(alloc: Global, input: &mut I, max: u64) -> Result<Lis
     ensures short { IfOk result (λ bytes. length bytes ≤ max) }
 
     // What an error leaves, and when it comes.
-    ensures gave { OnErr result (Gave (I.left input.old) (I.left input.new)) }
     ensures failed { IsErrOf result ReadError.Failed → GaveWithin (I.left input.old) (I.left input.new) max }
-    ensures cause { IsErrOf result ReadError.Failed → Rose (I.faults input.old) (I.faults input.new) }
     ensures too_long { IsErrOf result ReadError.TooLong → GavePast (I.left input.old) (I.left input.new) max }
-    ensures past { IsToldPast (I.left input.old) (I.left input.new) max
-        → IsErrOf result ReadError.TooLong ⊎ IsErrOf result ReadError.OutOfMemory }
-    ensures later { I.faults input.old ≤ I.faults input.new }
+    ensures no_memory { IsErrOf result ReadError.OutOfMemory → GaveWithin (I.left input.old) (I.left input.new) max }
+    ensures past { IsToldPast (I.left input.old) (I.left input.new) max → IsErrOf result ReadError.TooLong }
 
-    // Where no fault is met, the number of the bytes decides, but for want of memory.
-    ensures whole { (bytes : List ℕ) → I.left input.old ≡ Some bytes → length bytes ≤ max
-        → ¬ Rose (I.faults input.old) (I.faults input.new)
-        → MatchResult result (λ all. all ≡ bytes) (λ e. e ≡ ReadError.OutOfMemory) }
-    ensures over { (bytes : List ℕ) → I.left input.old ≡ Some bytes → max < length bytes
-        → ¬ Rose (I.faults input.old) (I.faults input.new)
-        → IsErrOf result ReadError.TooLong ⊎ IsErrOf result ReadError.OutOfMemory }
+    // The first read that fails ends it, and no other answer comes after a fault.
+    ensures counted { I.faults input.new ≡ faults_after result (I.faults input.old) }
 {
     let mut bytes = Vec::new(alloc);
     let mut chunk = [0u8; CHUNK];
-    while bytes.len() as u64 <= max {
+    loop {
         let count = input.read(&mut chunk)?;
         if count == 0 {
             return Ok(List::from_vec(bytes));
         }
+        if (bytes.len() + count) as u64 > max {
+            return Err(ReadError::TooLong);
+        }
         bytes.extend_from_slice(&chunk[..count])?;
     }
-    Err(ReadError::TooLong)
 }
 
-/// Writes the whole piece. A write that fails ends it, after a front of the piece was written.
+/// Writes the whole piece. The first write that fails ends it, after a front of the piece was
+/// written.
 pub fn write_all<O: Sink>(out: &mut O, piece: &[u8]) -> Result<(), Failed>
     ensures whole { OnOk result (Appends (O.written out.old) (O.written out.new) piece.now) }
     ensures part { OnErr result (WroteFront (O.written out.old) (O.written out.new) piece.now) }
-    ensures cause { HasCause (O.faults out.old) (O.faults out.new) result }
+    ensures counted { CountsFaults (O.faults out.old) (O.faults out.new) result }
 {
     let mut at = 0;
     while at < piece.len() {

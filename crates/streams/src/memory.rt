@@ -3,10 +3,10 @@
 //! Both say exactly when they fail: the source at one call that it is told when it is made, and the
 //! sink where its room is used up.
 
-ghost use Rattle.std.specs.Prelude.{◌≡◌, ◌≤◌, ◌<◌, ◌-◌, [], length, take, min, IfOk, OnOk, OnErr, IsErr, IsTrue, ◌↔◌, Some};
+ghost use Rattle.std.specs.Prelude.{◌≡◌, ◌≤◌, ◌<◌, ◌-◌, [], length, take, min, IfOk, IsErr, IsTrue, ◌↔◌, Some};
 ghost use Rattle.std.specs.Io.{ReadsAtMost, WritesAtMost};
 ghost use Rattle.std.specs.Io.KnownBytes.{ReadConsumes, WriteAppends};
-ghost use Rattle.streams.specs.Faults.{HasCause, raised};
+ghost use Rattle.streams.specs.Faults.{CountsFaults};
 ghost use Rattle.streams.specs.Moves.{IsZeroAtEnd};
 ghost use Rattle.streams.specs.Views.{fails_after_call};
 
@@ -89,14 +89,12 @@ impl Source for MemSource {
         ensures bound { ReadsAtMost result buf.new }
         ensures bytes { ReadConsumes (Some self.old.left) (Some self.new.left) result buf.new }
         ensures end { 0 < length buf.old → IfOk result (IsZeroAtEnd (Some self.old.left)) }
-        ensures cause { HasCause self.old.faults self.new.faults result }
+        ensures counted { CountsFaults self.old.faults self.new.faults result }
 
         // It fails exactly at the call that it was made to fail at, and else gives what fits.
         ensures fails { IsErr result ↔ (self.old.fails_in ≡ Some 1) }
         ensures fails_in { self.new.fails_in ≡ fails_after_call self.old.fails_in }
         ensures count { IfOk result (λ n. n ≡ min (length self.old.left) (length buf.old)) }
-        ensures calm { OnOk result (self.new.faults ≡ self.old.faults) }
-        ensures raised { OnErr result (self.new.faults ≡ raised self.old.faults) }
     {
         if counts_to_failure(&mut self.fails_in) {
             return Err(count_fault(&mut self.faults));
@@ -159,14 +157,12 @@ impl Sink for MemSink {
         ensures bound { WritesAtMost result piece.now }
         ensures some { 0 < length piece.now → IfOk result (λ n. 0 < n) }
         ensures bytes { WriteAppends (Some self.old.written) (Some self.new.written) result piece.now }
-        ensures cause { HasCause self.old.faults self.new.faults result }
+        ensures counted { CountsFaults self.old.faults self.new.faults result }
 
         // It fails exactly where there is something to take and no room, and else takes what fits.
         ensures fails { IsErr result ↔ ((0 < length piece.now) × (self.old.limit ≤ length self.old.written)) }
         ensures count { IfOk result (λ n. n ≡ min (length piece.now) (self.old.limit - length self.old.written)) }
         ensures limit { self.new.limit ≡ self.old.limit }
-        ensures calm { OnOk result (self.new.faults ≡ self.old.faults) }
-        ensures raised { OnErr result (self.new.faults ≡ raised self.old.faults) }
     {
         let count = piece.len().min(self.limit - self.bytes.len());
         if count == 0 && !piece.is_empty() {

@@ -1,13 +1,14 @@
 //! The two traits, and the fault that their calls may answer.
 //!
 //! An implementation tells its bytes as an `Option`: `None` where nothing is known of them, as for
-//! a file. It counts its faults itself, and the count never falls, so whoever gets `Failed` can say
-//! that the count rose.
+//! a file. It counts its faults itself: a call that answers `Failed` counts one, and every other call
+//! none. So whoever gets `Failed` can say that the count rose, and whoever gets `Ok` that no call was
+//! tried again after a fault.
 
-ghost use Rattle.std.specs.Prelude.{◌≡◌, ◌<◌, ◌≤◌, List, ℕ, length, IfOk, Option};
+ghost use Rattle.std.specs.Prelude.{◌≡◌, ◌<◌, List, ℕ, length, IfOk, Option};
 ghost use Rattle.std.specs.Io.{ReadsAtMost, WritesAtMost};
 ghost use Rattle.std.specs.Io.KnownBytes.{ReadConsumes, WriteAppends};
-ghost use Rattle.streams.specs.Faults.{HasCause, raised};
+ghost use Rattle.streams.specs.Faults.{CountsFaults, raised};
 ghost use Rattle.streams.specs.Moves.{IsZeroAtEnd};
 
 use thiserror::Error;
@@ -19,8 +20,7 @@ pub struct Failed;
 
 // Counts a fault, and gives it as an error.
 pub(crate) fn count_fault(faults: &mut u64) -> Failed
-    ensures raised { faults.new ≡ raised faults.old }
-    ensures later { faults.old ≤ faults.new }
+    ensures { faults.new ≡ raised faults.old }
 {
     *faults = faults.saturating_add(1);
     Failed
@@ -40,7 +40,7 @@ pub trait Source {
         ensures bound { ReadsAtMost result buf.new }
         ensures bytes { ReadConsumes (left self.old) (left self.new) result buf.new }
         ensures end { 0 < length buf.old → IfOk result (IsZeroAtEnd (left self.old)) }
-        ensures cause { HasCause (faults self.old) (faults self.new) result };
+        ensures counted { CountsFaults (faults self.old) (faults self.new) result };
 }
 
 /// Where bytes go to.
@@ -57,5 +57,5 @@ pub trait Sink {
         ensures bound { WritesAtMost result piece.now }
         ensures some { 0 < length piece.now → IfOk result (λ n. 0 < n) }
         ensures bytes { WriteAppends (written self.old) (written self.new) result piece.now }
-        ensures cause { HasCause (faults self.old) (faults self.new) result };
+        ensures counted { CountsFaults (faults self.old) (faults self.new) result };
 }

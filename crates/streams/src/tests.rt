@@ -4,7 +4,7 @@ use crate::{
 use mem_base::List;
 use std::alloc::{AllocError, Global};
 use std::io;
-use std::io::{ErrorKind, Read, Write};
+use std::io::{BufWriter, ErrorKind, Read, Write};
 use std::process::Abort;
 use std::test::Fail;
 
@@ -139,6 +139,25 @@ fn errors_of_std_are_failures(rt: HostRuntime) -> Result<(), Fail> {
     let mut room = [0u8; 3];
     assert!(rt; write_all(&mut StdSink::new(room.as_mut_slice()), b"abcd").is_err());
     assert_eq!(rt; room, *b"abc");
+    Ok(())
+}
+
+#[test]
+fn a_buffer_holds_pieces_back_until_the_flush(rt: HostRuntime) -> Result<(), Fail> {
+    let alloc = rt.alloc();
+    let mut written = Vec::new(alloc);
+    let mut sink = StdSink::new(BufWriter::with_capacity(alloc, 8, &mut written)?);
+    for piece in [b"abc".as_slice(), b"defghijklmnop", b"q"] {
+        write_all(&mut sink, piece)?;
+    }
+    sink.flush()?;
+    drop(sink);
+    assert_eq!(rt; written.as_slice(), b"abcdefghijklmnopq".as_slice());
+    let mut late = StdSink::new(BufWriter::with_capacity(alloc, 8, Broken)?);
+    assert!(rt; write_all(&mut late, b"abc").is_ok());
+    assert!(rt; late.flush().is_err());
+    let mut early = StdSink::new(BufWriter::with_capacity(alloc, 8, Broken)?);
+    assert!(rt; write_all(&mut early, b"abcdefghi").is_err());
     Ok(())
 }
 

@@ -1,7 +1,8 @@
-pub mod OperandLaws
-pub mod WordLaws
-pub mod ActionLaws
-pub mod LineLaws
-pub mod LineSteps
-pub mod TrackLaws
-pub mod TraceLaws
+pub mod CallerLemmas
+mod OperandLaws
+mod WordLaws
+mod ActionLaws
+mod LineLaws
+mod LineSteps
+mod TrackLaws
+mod TraceLaws

@@ -12,11 +12,10 @@ use Rattle.mem_base.specs.declared.trace.Letter.{Letter}
 use Rattle.mem_base.specs.declared.trace.Letter.TheVariants.{Raw, Mem, Obj}
 use Rattle.mem_base.specs.declared.trace.Side.{Side}
 use Rattle.mem_base.specs.declared.trace.Side.TheVariants as sides
-use Rattle.block_model.specs.Block.{IsOffset}
-use Rattle.trace_model.specs.Spelling.{is_between, is_name, letter_word, side_word, hex_word, glyph}
+use Rattle.mem_base.specs.Offset.{IsOffset}
 use Rattle.trace_model.specs.declared.cause.TraceCause.{TraceCause}
 use Rattle.trace_model.specs.declared.cause.TraceCause.TheVariants.{BadNumber, BadRange, BadName}
-use Rattle.trace_model.specs.Reading.{◌>>=◌, digits_from, number_at, forward_at, backward_at, offset_at, number_in, name_at, letter_at, side_at, digit_of, joined, hex_from}
+use Rattle.trace_model.specs.Operands.{◌>>=◌, is_between, is_name, letter_word, side_word, hex_word, glyph, digits_from, number_at, forward_at, backward_at, offset_at, number_in, name_at, letter_at, side_at, digit_of, with_byte, hex_from}
 
 -- the value of a step that did not fail
 pub bind_ok : {A B : Type 0} (r : Result A TraceCause) (f : A → Result B TraceCause) (y : B) → (r >>= f) ≡ Ok y → (x : A) × (r ≡ Ok x) × (f x ≡ Ok y)
@@ -24,14 +23,14 @@ bind_ok (Ok x) f y e = (x, refl, e)
 bind_ok (Err d) f y e = absurd cc
 
 -- a test that did not fail
-pub passed : {A : Type 0} (b : Bool) (r : Result A TraceCause) (d : TraceCause) (y : A) → cond b r (Err d) ≡ Ok y → (b ≡ true) × (r ≡ Ok y)
-passed true r d y e = (refl, e)
-passed false r d y e = absurd cc
+pub test_holds : {A : Type 0} (b : Bool) (r : Result A TraceCause) (d : TraceCause) (y : A) → cond b r (Err d) ≡ Ok y → (b ≡ true) × (r ≡ Ok y)
+test_holds true r d y e = (refl, e)
+test_holds false r d y e = absurd cc
 
 -- a test whose failure would be a fault
-pub unpassed : {A : Type 0} (b : Bool) (r : Result A TraceCause) (d : TraceCause) (y : A) → cond b (Err d) r ≡ Ok y → (b ≡ false) × (r ≡ Ok y)
-unpassed true r d y e = absurd cc
-unpassed false r d y e = (refl, e)
+pub test_fails : {A : Type 0} (b : Bool) (r : Result A TraceCause) (d : TraceCause) (y : A) → cond b (Err d) r ≡ Ok y → (b ≡ false) × (r ≡ Ok y)
+test_fails true r d y e = absurd cc
+test_fails false r d y e = (refl, e)
 
 abbrev done : {A : Type 0} → A → Result A TraceCause
 done x = Ok x
@@ -61,7 +60,7 @@ digits_take n [] m e =
     let same : n ≡ m = cc in
     (refl, same, λ lt. subst (λ (k : ℕ). k < 2 ^ 64) same lt)
 digits_take n (c ∷ cs) m e =
-    let p = passed (is_between 48 57 c && nat_lt (n * 10 + (c - 48)) (2 ^ 64)) (digits_from (n * 10 + (c - 48)) cs) BadNumber m e in
+    let p = test_holds (is_between 48 57 c && nat_lt (n * 10 + (c - 48)) (2 ^ 64)) (digits_from (n * 10 + (c - 48)) cs) BadNumber m e in
     let b = both (is_between 48 57 c) (nat_lt (n * 10 + (c - 48)) (2 ^ 64)) p.0 in
     let rest = digits_take (n * 10 + (c - 48)) cs m p.1 in
     let step : 10 * n + (c - 48) ≡ n * 10 + (c - 48) = omega arith in
@@ -93,7 +92,7 @@ number_takes (c ∷ []) n e =
     let t = digits_take 0 (c ∷ []) n e in
     number_by (c ∷ []) n t.0 t.1 (t.2 (lit< tt)) (lit< tt) (λ h. refl)
 number_takes (c ∷ d ∷ ds) n e =
-    let p = unpassed (c == 48) (digits_from 0 (c ∷ d ∷ ds)) BadNumber n e in
+    let p = test_fails (c == 48) (digits_from 0 (c ∷ d ∷ ds)) BadNumber n e in
     let t = digits_take 0 (c ∷ d ∷ ds) n p.1 in
     number_by (c ∷ d ∷ ds) n t.0 t.1 (t.2 (lit< tt)) (omega arith) (λ h. absurd (not_zero c p.0 h))
 
@@ -125,7 +124,7 @@ unfolding number_in
 ranged_takes least most w n e =
     let b = bind_ok (number_at w) (λ k. cond (is_between least most k) (Ok k) (Err BadRange)) n e in
     let t = number_takes w b.0 b.1 in
-    let p = passed (is_between least most b.0) (Ok b.0) BadRange n b.2 in
+    let p = test_holds (is_between least most b.0) (Ok b.0) BadRange n b.2 in
     let r = both (nat_le least b.0) (nat_le b.0 most) p.0 in
     subst (λ (k : ℕ). (w ≡ decimal k) × (least ≤ k) × (k ≤ most)) (ok_is b.0 n p.1) (t.0, leb-true _ _ r.0, leb-true _ _ r.1)
 
@@ -137,13 +136,13 @@ ranged_again least most n fits low high = rw (number_again n (omega (arith, fits
 
 forward_takes : (n : ℕ) (z : ℤ) → forward_at n ≡ Ok z → (z ≡ pos n) × (n < 2 ^ 63)
 forward_takes n z e =
-    let p = passed (nat_lt n (2 ^ 63)) (Ok (pos n)) BadRange z e in
+    let p = test_holds (nat_lt n (2 ^ 63)) (Ok (pos n)) BadRange z e in
     (sym (ok_is (pos n) z p.1), ltb-true _ _ p.0)
 
 backward_takes : (n : ℕ) (z : ℤ) → backward_at n ≡ Ok z → (m : ℕ) × (n ≡ suc m) × (z ≡ negsuc m) × (m < 8)
 backward_takes zero z e = absurd cc
 backward_takes (suc m) z e =
-    let p = passed (nat_lt m 8) (Ok (negsuc m)) BadRange z e in
+    let p = test_holds (nat_lt m 8) (Ok (negsuc m)) BadRange z e in
     (m, refl, sym (ok_is (negsuc m) z p.1), ltb-true _ _ p.0)
 
 pub offset_takes : (w : List ℕ) (z : ℤ) → offset_at w ≡ Ok z → (w ≡ signed_decimal z) × IsOffset z
@@ -189,11 +188,11 @@ offset_again (negsuc n) lt =
 -- ---- names, letters and sides
 
 pub name_takes : (w : List ℕ) (u : Unit {0}) → name_at w ≡ Ok u → is_name w ≡ true
-name_takes w u e = (passed (is_name w) (Ok tt) BadName u e).0
+name_takes w u e = (test_holds (is_name w) (Ok tt) BadName u e).0
 
 -- one of several texts
-pub chosen : {K : Type 0} (text : K → List ℕ) (w : List ℕ) (k : K) (rest : Result K TraceCause) (y : K) → cond (bytes_eq w (text k)) (Ok k) rest ≡ Ok y → (w ≡ text y) ⊎ (rest ≡ Ok y)
-chosen {K} text w k rest y e = by (bytes_eq w (text k)) refl e
+pub one_of : {K : Type 0} (text : K → List ℕ) (w : List ℕ) (k : K) (rest : Result K TraceCause) (y : K) → cond (bytes_eq w (text k)) (Ok k) rest ≡ Ok y → (w ≡ text y) ⊎ (rest ≡ Ok y)
+one_of {K} text w k rest y e = by (bytes_eq w (text k)) refl e
   where
     by : (b : Bool) → bytes_eq w (text k) ≡ b → cond b (Ok k) rest ≡ Ok y → (w ≡ text y) ⊎ (rest ≡ Ok y)
     by true is h = inl ((bytes_eq-Decides w (text k)).0 is ∙ ap text (ok_is k y h))
@@ -201,11 +200,11 @@ chosen {K} text w k rest y e = by (bytes_eq w (text k)) refl e
 
 pub letter_takes : (w : List ℕ) (l : Letter) → letter_at w ≡ Ok l → w ≡ letter_word l
 unfolding letter_at
-letter_takes w l e = elim (chosen letter_word w Raw _ l e) [
+letter_takes w l e = elim (one_of letter_word w Raw _ l e) [
   | inl h ↦ h
-  | inr e1 ↦ elim (chosen letter_word w Mem _ l e1) [
+  | inr e1 ↦ elim (one_of letter_word w Mem _ l e1) [
     | inl h ↦ h
-    | inr e2 ↦ elim (chosen letter_word w Obj _ l e2) [ inl h ↦ h | inr e3 ↦ absurd cc ]
+    | inr e2 ↦ elim (one_of letter_word w Obj _ l e2) [ inl h ↦ h | inr e3 ↦ absurd cc ]
   ]
 ]
 
@@ -217,9 +216,9 @@ letter_again Obj = refl
 
 pub side_takes : (w : List ℕ) (s : Side) → side_at w ≡ Ok s → w ≡ side_word s
 unfolding side_at
-side_takes w s e = elim (chosen side_word w sides.Arena _ s e) [
+side_takes w s e = elim (one_of side_word w sides.Arena _ s e) [
   | inl h ↦ h
-  | inr e1 ↦ elim (chosen side_word w sides.Raw _ s e1) [ inl h ↦ h | inr e2 ↦ absurd cc ]
+  | inr e1 ↦ elim (one_of side_word w sides.Raw _ s e1) [ inl h ↦ h | inr e2 ↦ absurd cc ]
 ]
 
 pub side_again : (s : Side) → side_at (side_word s) ≡ Ok s
@@ -272,10 +271,10 @@ digit_back x lt = elim (cases_lt x 10) [
       ∙ ap (λ (v : Bool). cond v (Some ((87 + x) - 87)) None) (between 97 102 (87 + x) (omega arith) (omega arith)) ∙ ap (λ (n : ℕ). Some n) back
 ]
 
-joined_is : (x y : Option ℕ) (r : Result (List ℕ) TraceCause) (bytes : List ℕ) → joined x y r ≡ Ok bytes → (a : ℕ) × (b : ℕ) × (bs : List ℕ) × (x ≡ Some a) × (y ≡ Some b) × (r ≡ Ok bs) × (bytes ≡ (16 * a + b) ∷ bs)
-joined_is None y r bytes e = absurd cc
-joined_is (Some a) None r bytes e = absurd cc
-joined_is (Some a) (Some b) r bytes e =
+with_byte_is : (x y : Option ℕ) (r : Result (List ℕ) TraceCause) (bytes : List ℕ) → with_byte x y r ≡ Ok bytes → (a : ℕ) × (b : ℕ) × (bs : List ℕ) × (x ≡ Some a) × (y ≡ Some b) × (r ≡ Ok bs) × (bytes ≡ (16 * a + b) ∷ bs)
+with_byte_is None y r bytes e = absurd cc
+with_byte_is (Some a) None r bytes e = absurd cc
+with_byte_is (Some a) (Some b) r bytes e =
     let p = bind_ok r (λ bs. Ok ((16 * a + b) ∷ bs)) bytes e in
     (a, b, p.0, refl, refl, p.1, sym (ok_is ((16 * a + b) ∷ p.0) bytes p.2))
 
@@ -286,7 +285,7 @@ pub hex_takes : (w bytes : List ℕ) → hex_from w ≡ Ok bytes → (w ≡ hex_
 hex_takes [] bytes e = subst (λ (bs : List ℕ). ([] ≡ hex_word bs) × AllByRecursion (λ b. b < 256) bs) (ok_is [] bytes e) (refl, tt)
 hex_takes (c ∷ []) bytes e = absurd cc
 hex_takes (c ∷ d ∷ cs) bytes e =
-    let j = joined_is (digit_of c) (digit_of d) (hex_from cs) bytes e in
+    let j = with_byte_is (digit_of c) (digit_of d) (hex_from cs) bytes e in
     let first = digit_is c j.0 j.3 in
     let second = digit_is d j.1 j.4 in
     let rest = hex_takes cs j.2 j.5 in
@@ -301,4 +300,4 @@ pub hex_back : (bytes : List ℕ) → AllByRecursion (λ b. b < 256) bytes → h
 hex_back [] fits = refl
 hex_back (b ∷ bs) fits =
     let w = whole b fits.0 in
-    (λ i. joined (digit_back (b / 16) w.0 i) (digit_back (b % 16) w.1 i) (hex_back bs fits.1 i)) ∙ ap (λ (n : ℕ). done (n ∷ bs)) w.2
+    (λ i. with_byte (digit_back (b / 16) w.0 i) (digit_back (b % 16) w.1 i) (hex_back bs fits.1 i)) ∙ ap (λ (n : ℕ). done (n ∷ bs)) w.2

@@ -6,8 +6,9 @@ use Rattle.std.proofs.lemmas.Bool.{eqb-true, ltb-true, lt-ltb}
 use Rattle.std.proofs.lemmas.List.Concat.{flat_map-cons}
 use Rattle.std.proofs.lemmas.List.Sums.{sum_by-cons, sum_by-append}
 use Rattle.std.proofs.lemmas.Grind.{flat_map-append}
-use Rattle.trace_model.specs.Plain.{Name, Action, PlainTrack}
-use Rattle.trace_model.specs.Spelling.{line_of, track_line, ended, action_lines, track_lines, action_count, is_report, reports_in, report_count, Fits, FitsTrack}
+use Rattle.mem_base.specs.Name.{Name}
+use Rattle.trace_model.specs.Plain.{Action, PlainTrack, is_report, Fits}
+use Rattle.trace_model.specs.Spelling.{line_of, track_line, with_end, action_lines, track_lines, action_count, reports_in, report_count, FitsTrack}
 use Rattle.trace_model.specs.Reading.{with_action}
 
 pub all_push : {X : Type 0} (P : X → Type 0) (xs : List X) (x : X) → AllByRecursion P xs → P x → AllByRecursion P (xs ++ x ∷ [])
@@ -16,10 +17,10 @@ all_push P (y ∷ ys) x fits fit = (fits.0, all_push P ys x fits.1 fit)
 
 -- the bytes of a track
 abbrev pub lines_of : PlainTrack → List ℕ
-lines_of t = ended (track_line t.name) ++ action_lines t.actions
+lines_of t = with_end (track_line t.name) ++ action_lines t.actions
 
-pub actions_push : (actions : List Action) (a : Action) → action_lines (actions ++ a ∷ []) ≡ action_lines actions ++ ended (line_of a)
-actions_push actions a = flat_map-append (λ b. ended (line_of b)) actions (a ∷ []) ∙ ap (λ (x : List ℕ). action_lines actions ++ x) (append-nil (ended (line_of a)))
+pub actions_push : (actions : List Action) (a : Action) → action_lines (actions ++ a ∷ []) ≡ action_lines actions ++ with_end (line_of a)
+actions_push actions a = flat_map-append (λ b. with_end (line_of b)) actions (a ∷ []) ∙ ap (λ (x : List ℕ). action_lines actions ++ x) (append-nil (with_end (line_of a)))
 
 pub track_lines-one : (t : PlainTrack) → track_lines (t ∷ []) ≡ lines_of t
 track_lines-one t = append-nil (lines_of t)
@@ -27,8 +28,8 @@ track_lines-one t = append-nil (lines_of t)
 pub track_lines-push : (ts : List PlainTrack) (t : PlainTrack) → track_lines (ts ++ t ∷ []) ≡ track_lines ts ++ lines_of t
 track_lines-push ts t = flat_map-append lines_of ts (t ∷ []) ∙ ap (λ (x : List ℕ). track_lines ts ++ x) (track_lines-one t)
 
-pub new_track : (ts : List PlainTrack) (name : Name) → track_lines (ts ++ record { name = name; actions = [] } ∷ []) ≡ track_lines ts ++ ended (track_line name)
-new_track ts name = track_lines-push ts (record { name = name; actions = [] }) ∙ ap (λ (x : List ℕ). track_lines ts ++ x) (append-nil (ended (track_line name)))
+pub new_track : (ts : List PlainTrack) (name : Name) → track_lines (ts ++ record { name = name; actions = [] } ∷ []) ≡ track_lines ts ++ with_end (track_line name)
+new_track ts name = track_lines-push ts (record { name = name; actions = [] }) ∙ ap (λ (x : List ℕ). track_lines ts ++ x) (append-nil (with_end (track_line name)))
 
 pub count_of_new : (ts : List PlainTrack) (name : Name) → action_count (ts ++ record { name = name; actions = [] } ∷ []) ≡ action_count ts
 count_of_new ts name =
@@ -99,15 +100,15 @@ fits_with [] a fit fits = tt
 fits_with (t ∷ []) a fit fits = (record { name = fits.0.name; actions = all_push Fits t.actions a fits.0.actions fit }, tt)
 fits_with (t ∷ u ∷ ts) a fit fits = (fits.0, fits_with (u ∷ ts) a fit fits.1)
 
-pub lines_with : (ts : List PlainTrack) (a : Action) → (length ts == 0) ≡ false → track_lines (with_action ts a) ≡ track_lines ts ++ ended (line_of a)
+pub lines_with : (ts : List PlainTrack) (a : Action) → (length ts == 0) ≡ false → track_lines (with_action ts a) ≡ track_lines ts ++ with_end (line_of a)
 lines_with [] a some = absurd (true≢false some)
 lines_with (t ∷ []) a some =
     track_lines-one (record { name = t.name; actions = t.actions ++ a ∷ [] })
-    ∙ ap (λ (x : List ℕ). ended (track_line t.name) ++ x) (actions_push t.actions a)
-    ∙ sym (append_assoc (ended (track_line t.name)) (action_lines t.actions) (ended (line_of a)))
-    ∙ ap (λ (x : List ℕ). x ++ ended (line_of a)) (sym (track_lines-one t))
+    ∙ ap (λ (x : List ℕ). with_end (track_line t.name) ++ x) (actions_push t.actions a)
+    ∙ sym (append_assoc (with_end (track_line t.name)) (action_lines t.actions) (with_end (line_of a)))
+    ∙ ap (λ (x : List ℕ). x ++ with_end (line_of a)) (sym (track_lines-one t))
 lines_with (t ∷ u ∷ ts) a some =
     flat_map-cons lines_of t (with_action (u ∷ ts) a)
     ∙ ap (λ (x : List ℕ). lines_of t ++ x) (lines_with (u ∷ ts) a (suc_not_zero (length ts)))
-    ∙ sym (append_assoc (lines_of t) (track_lines (u ∷ ts)) (ended (line_of a)))
-    ∙ ap (λ (x : List ℕ). x ++ ended (line_of a)) (sym (flat_map-cons lines_of t (u ∷ ts)))
+    ∙ sym (append_assoc (lines_of t) (track_lines (u ∷ ts)) (with_end (line_of a)))
+    ∙ ap (λ (x : List ℕ). x ++ with_end (line_of a)) (sym (flat_map-cons lines_of t (u ∷ ts)))

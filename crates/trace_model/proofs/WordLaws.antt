@@ -10,9 +10,9 @@ use Rattle.mem_base.specs.declared.trace.Letter.{Letter}
 use Rattle.mem_base.specs.declared.trace.Letter.TheVariants.{Raw, Mem, Obj}
 use Rattle.mem_base.specs.declared.trace.Side.{Side}
 use Rattle.mem_base.specs.declared.trace.Side.TheVariants as sides
-use Rattle.trace_model.specs.Plain.{Name, Action, acquire, release, malloc, free, poke, peek, heap, refuse, other}
-use Rattle.block_model.specs.Block.{IsOffset}
-use Rattle.trace_model.specs.Spelling.{is_between, is_name, is_name_byte, letter_word, side_word, hex_word, glyph, words_of, Fits}
+use Rattle.mem_base.specs.Name.{Name}
+use Rattle.mem_base.specs.Offset.{IsOffset}
+use Rattle.trace_model.specs.Operands.{is_between, is_name, is_name_byte, letter_word, side_word, hex_word, glyph}
 use Rattle.trace_model.proofs.OperandLaws.{are_digits, own, both, low, high, between, whole}
 
 abbrev pub has_some : List ℕ → Bool
@@ -56,7 +56,7 @@ some_word : (w : List ℕ) → 0 < length w → list_all (is_between 33 126) w �
 some_word [] some h = absurd (omega arith)
 some_word (b ∷ bs) some h = h
 
-name_word : (name : Name) → is_name name ≡ true → is_word name ≡ true
+pub name_word : (name : Name) → is_name name ≡ true → is_word name ≡ true
 name_word name h =
     let t = both (is_between 1 32 (length name)) (list_all is_name_byte name) h in
     let l = both (nat_le 1 (length name)) (nat_le (length name) 32) t.0 in
@@ -68,10 +68,10 @@ digits_all (d ∷ ds) h =
     let t = both (is_between 48 57 d) (are_digits ds) h in
     ap (λ (v : Bool). v && list_all (is_between 33 126) ds) (wider 48 57 33 126 (lit≤ tt) (lit≤ tt) d t.0) ∙ digits_all ds t.1
 
-number_word : (n : ℕ) → n < 2 ^ 64 → is_word (decimal n) ≡ true
+pub number_word : (n : ℕ) → n < 2 ^ 64 → is_word (decimal n) ≡ true
 number_word n lt = some_word (decimal n) (decimal_nonempty n lt) (digits_all (decimal n) (digits_decimal own n lt))
 
-offset_word : (z : ℤ) → IsOffset z → is_word (signed_decimal z) ≡ true
+pub offset_word : (z : ℤ) → IsOffset z → is_word (signed_decimal z) ≡ true
 offset_word (pos n) lt = number_word n (omega (arith, lt))
 offset_word (negsuc n) lt = digits_all (decimal (suc n)) (digits_decimal own (suc n) (omega (arith, lt)))
 
@@ -87,29 +87,18 @@ hex_all (b ∷ bs) fits =
     let w = whole b fits.0 in
     (λ i. glyph_in (b / 16) w.0 i && (glyph_in (b % 16) w.1 i && hex_all bs fits.1 i))
 
-hex_is_word : (bytes : List ℕ) → AllByRecursion (λ b. b < 256) bytes → 1 ≤ length bytes → is_word (hex_word bytes) ≡ true
+pub hex_is_word : (bytes : List ℕ) → AllByRecursion (λ b. b < 256) bytes → 1 ≤ length bytes → is_word (hex_word bytes) ≡ true
 hex_is_word [] fits some = absurd (omega arith)
 hex_is_word (b ∷ bs) fits some = hex_all (b ∷ bs) fits
 
-letter_is_word : (l : Letter) → is_word (letter_word l) ≡ true
+pub letter_is_word : (l : Letter) → is_word (letter_word l) ≡ true
 letter_is_word Raw = refl
 letter_is_word Mem = refl
 letter_is_word Obj = refl
 
-side_is_word : (s : Side) → is_word (side_word s) ≡ true
+pub side_is_word : (s : Side) → is_word (side_word s) ≡ true
 side_is_word sides.Arena = refl
 side_is_word sides.Raw = refl
-
-pub words_fit : (a : Action) → Fits a → AllByRecursion (λ w. is_word w ≡ true) (words_of a)
-words_fit acquire fits = (refl, tt)
-words_fit release fits = (refl, tt)
-words_fit (malloc letter name size) fits = (refl, (letter_is_word letter, (name_word name fits.0, (number_word size fits.1, tt))))
-words_fit (free letter name) fits = (refl, (letter_is_word letter, (name_word name fits, tt)))
-words_fit (poke name offset bytes) fits = (refl, (name_word name fits.0, (offset_word offset fits.1, (hex_is_word bytes fits.2 fits.3, tt))))
-words_fit (peek name offset count) fits = (refl, (name_word name fits.0, (offset_word offset fits.1, (number_word count (omega (arith, fits.3)), tt))))
-words_fit heap fits = (refl, tt)
-words_fit (refuse side number) fits = (refl, (side_is_word side, (number_word number (omega (arith, fits.1)), tt)))
-words_fit other fits = absurd fits
 
 pub track_words_fit : (name : Name) → is_name name ≡ true → AllByRecursion (λ w. is_word w ≡ true) (codes "track" ∷ name ∷ [])
 track_words_fit name h = (refl, (name_word name h, tt))

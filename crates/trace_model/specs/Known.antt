@@ -1,36 +1,23 @@
 -- What a machine needs of the trace that it runs.
 use Rattle.std.specs.Prelude.{◌≡◌, ℕ, ◌<◌, ◌≤◌, List, length, sum_by, slice_get, Option, Some}
 use Rattle.std.specs.Option.{option_and_then}
-use Rattle.mem_base.specs.declared.limits.TheConstants.{MAX_OPS, MAX_REACH, MAX_REFUSAL, MAX_TRACKS}
+use Rattle.mem_base.specs.Name.{Name}
+use Rattle.mem_base.specs.declared.limits.TheConstants.{MAX_OPS, MAX_TRACKS}
 use Rattle.mem_base.specs.declared.texts.TextId.{TextId}
 use Rattle.mem_base.specs.declared.trace.Op.{Op}
-use Rattle.mem_base.specs.declared.trace.Op.TheVariants.{Acquire, Release, Malloc, Free, Poke, Peek, Heap, Refuse}
 use Rattle.mem_base.specs.declared.trace.Track.{Track}
 use Rattle.mem_base.specs.declared.trace.Trace.{Trace}
-use Rattle.trace_model.specs.Plain.{Name}
-use Rattle.block_model.specs.Block.{IsOffset}
+use Rattle.trace_model.specs.Plain.{IsKnownAmong}
 
 -- the number is in the table
 abbrev pub IsKnown : List Name → TextId → Type 0
 IsKnown texts id = id.0 < length texts
 
--- one of the operations that a trace may have, with its name among so many and its operands in their ranges
-abbrev pub IsKnownAmong : ℕ → Op → Type 0
-IsKnownAmong texts Acquire = Unit {0}
-IsKnownAmong texts Release = Unit {0}
-IsKnownAmong texts (Malloc letter name size) = name.0 < texts
-IsKnownAmong texts (Free letter name) = name.0 < texts
-IsKnownAmong texts (Poke name offset bytes) = (name.0 < texts) × IsOffset offset × (1 ≤ length bytes) × (length bytes ≤ MAX_REACH)
-IsKnownAmong texts (Peek name offset count) = (name.0 < texts) × IsOffset offset × (1 ≤ count) × (count ≤ MAX_REACH)
-IsKnownAmong texts Heap = Unit {0}
-IsKnownAmong texts (Refuse side number) = (1 ≤ number) × (number ≤ MAX_REFUSAL)
-IsKnownAmong texts op = ⊥
-
 -- one of the operations that a trace may have, with its name in the table
 abbrev pub IsKnownOp : List Name → Op → Type 0
 IsKnownOp texts op = IsKnownAmong (length texts) op
 
--- the operation at a place of a track
+-- the operation of a track at an index
 abbrev pub op_at : List Track → ℕ → ℕ → Option Op
 op_at tracks t at = option_and_then (λ track. slice_get track.ops at) (slice_get tracks t)
 

@@ -1,3 +1,4 @@
+pub mod Operands
 pub mod Plain
 pub mod Spelling
 pub mod Cause

@@ -1,7 +1,18 @@
-/// The first word of a line after the header.
+//! What a line begins with, a track or an operation, and what is said of each operation once: its
+//! keyword, and the name of the block that it works on. A keyword is spelt in one table,
+//! [`Keyword::word`], which reading, spelling and reports use. An operation that no trace may have yet
+//! has no keyword.
+ghost use Rattle.std.specs.Prelude.{◌≡◌, ◌<◌, ℕ, List, IfSome};
+ghost use Rattle.std.specs.Option.{option_map};
+ghost use Rattle.mem_base.specs.Name.{Name};
+ghost use Rattle.trace_model.specs.Plain.{action_of, keyword_of, keyword_text, keywords, name_of, prints_more, text_at, IsKnownAmong};
+ghost use Rattle.trace_model.specs.Spelling.{head_text};
+
+use mem_base::{Op, TextId};
+
+/// The operations that a trace may have.
 #[derive(Clone, Copy, Debug, PartialEq, Eq)]
 pub enum Keyword {
-    Track,
     Acquire,
     Release,
     Malloc,
@@ -10,4 +21,141 @@ pub enum Keyword {
     Peek,
     Heap,
     Refuse,
+}
+
+/// What the first word of a line after the header begins: a track, or an operation of the last track.
+#[derive(Clone, Copy, Debug, PartialEq, Eq)]
+pub enum Head {
+    Track,
+    Op(Keyword),
+}
+
+impl Keyword {
+    /// All keywords.
+    pub fn all() -> [Keyword; 8]
+        ensures { result ≡ keywords }
+    {
+        [
+            Keyword::Acquire,
+            Keyword::Release,
+            Keyword::Malloc,
+            Keyword::Free,
+            Keyword::Poke,
+            Keyword::Peek,
+            Keyword::Heap,
+            Keyword::Refuse,
+        ]
+    }
+
+    /// The word as traces and reports spell it.
+    pub fn word(self) -> &'static str
+        ensures { result.now ≡ keyword_text self }
+    {
+        match self {
+            Keyword::Acquire => "acquire",
+            Keyword::Release => "release",
+            Keyword::Malloc => "malloc",
+            Keyword::Free => "free",
+            Keyword::Poke => "poke",
+            Keyword::Peek => "peek",
+            Keyword::Heap => "heap",
+            Keyword::Refuse => "refuse",
+        }
+    }
+
+    /// Whether operations with this keyword print more than a reply. A trace has at most
+    /// [`mem_base::limits::MAX_REPORTS`] of them.
+    pub fn prints_more(self) -> bool
+        ensures { result ≡ prints_more self }
+    {
+        match self {
+            Keyword::Heap => true,
+            Keyword::Acquire
+            | Keyword::Release
+            | Keyword::Malloc
+            | Keyword::Free
+            | Keyword::Poke
+            | Keyword::Peek
+            | Keyword::Refuse => false,
+        }
+    }
+
+    /// The keyword of an operation, where a trace may have it.
+    pub fn of(op: &Op) -> Option<Keyword>
+        ensures { (texts : List Name) → result ≡ keyword_of (action_of texts op.now) }
+    {
+        match op {
+            Op::Acquire => Some(Keyword::Acquire),
+            Op::Release => Some(Keyword::Release),
+            Op::Malloc(_, _, _) => Some(Keyword::Malloc),
+            Op::Free(_, _) => Some(Keyword::Free),
+            Op::Poke(_, _, _) => Some(Keyword::Poke),
+            Op::Peek(_, _, _) => Some(Keyword::Peek),
+            Op::Heap => Some(Keyword::Heap),
+            Op::Refuse(_, _) => Some(Keyword::Refuse),
+            Op::Calloc(_, _, _, _)
+            | Op::Realloc(_, _, _)
+            | Op::Enter(_, _)
+            | Op::Line(_)
+            | Op::Leave
+            | Op::Start(_)
+            | Op::Stop
+            | Op::Clear
+            | Op::ResetPeak
+            | Op::Traced
+            | Op::Mark(_, _, _)
+            | Op::Unmark(_, _)
+            | Op::Origin(_)
+            | Op::Snapshot(_)
+            | Op::Keep(_, _, _)
+            | Op::Stats(_, _, _, _)
+            | Op::Compare(_, _, _, _, _)
+            | Op::Dump(_) => None,
+        }
+    }
+}
+
+impl Head {
+    /// The first word of a line that begins this.
+    pub fn word(self) -> &'static str
+        ensures { result.now ≡ head_text self }
+    {
+        match self {
+            Head::Track => "track",
+            Head::Op(keyword) => keyword.word(),
+        }
+    }
+}
+
+/// The number of the name of the block that an operation works on, where it works on one.
+pub fn name_of(op: &Op) -> Option<TextId>
+    ensures name { (texts : List Name) → option_map (text_at texts) result ≡ name_of (action_of texts op.now) }
+    ensures known { (texts : ℕ) → IsKnownAmong texts op.now → IfSome result (λ id. id.0 < texts) }
+{
+    match op {
+        Op::Malloc(_, name, _) | Op::Free(_, name) | Op::Poke(name, _, _) | Op::Peek(name, _, _) =>
+            { Some(*name) }
+        Op::Acquire
+        | Op::Release
+        | Op::Heap
+        | Op::Refuse(_, _)
+        | Op::Calloc(_, _, _, _)
+        | Op::Realloc(_, _, _)
+        | Op::Enter(_, _)
+        | Op::Line(_)
+        | Op::Leave
+        | Op::Start(_)
+        | Op::Stop
+        | Op::Clear
+        | Op::ResetPeak
+        | Op::Traced
+        | Op::Mark(_, _, _)
+        | Op::Unmark(_, _)
+        | Op::Origin(_)
+        | Op::Snapshot(_)
+        | Op::Keep(_, _, _)
+        | Op::Stats(_, _, _, _)
+        | Op::Compare(_, _, _, _, _)
+        | Op::Dump(_) => None,
+    }
 }

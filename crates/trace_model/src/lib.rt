@@ -1,6 +1,9 @@
 //! What a recorded trace is: its operations with their names written out, its one spelling, and the
-//! first fault of bytes that spell none. The definitions stand in `specs/`; the functions here are
-//! the laws that tie them together.
+//! first fault of bytes that spell none. The definitions stand in `specs/`: `Operands` says how a
+//! number, an offset, a name or bytes are spelt and read, `Plain` all that is said of each operation
+//! (its keyword, its operands, their ranges, how it is read), `Spelling` and `Reading` what a whole
+//! trace is, both ways. The functions here are the table of keywords and the laws that tie the
+//! definitions together.
 //!
 //! A trace is lines of words. The first line is `pymtrace 1`, then comes a line `track NAME`, and
 //! then a line for each of the track's operations:
@@ -21,5 +24,5 @@ mod keyword;
 mod laws;
 
 pub use cause::TraceCause;
-pub use keyword::Keyword;
+pub use keyword::{Head, Keyword, name_of};
 pub use laws::{read_where_spelt, spelt_once};

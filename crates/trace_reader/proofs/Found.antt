@@ -8,14 +8,15 @@ use Rattle.mem_base.specs.declared.texts.TextId.{TextId}
 use Rattle.mem_base.specs.declared.trace.Op.{Op}
 use Rattle.mem_base.specs.declared.trace.Track.{Track}
 use Rattle.mem_base.specs.declared.trace.Trace.{Trace}
-use Rattle.trace_model.specs.Plain.{Name, PlainTrace, plain}
+use Rattle.mem_base.specs.Name.{Name}
+use Rattle.trace_model.specs.Plain.{PlainTrace, plain}
 use Rattle.trace_model.specs.Spelling.{spelling, IsWellFormed}
 use Rattle.trace_model.specs.Known.{IsKnown, IsKnownOp, IsKnownTrace, op_at, op_count}
 use Rattle.trace_model.specs.Reading.{trace_at}
-use Rattle.trace_model.proofs.TraceLaws.{trace_takes, read_back}
+use Rattle.trace_model.proofs.CallerLemmas.{trace_takes, read_back}
 use Rattle.trace_reader.specs.declared.error.TraceError.{TraceError}
 use Rattle.trace_reader.specs.Answers.{Reads}
-use Rattle.trace_reader.specs.Progress.{begun, IsKnownSoFar}
+use Rattle.trace_reader.specs.Progress.{tracks_so_far, IsKnownSoFar}
 
 pub is_found : (bytes : List ℕ) (r : Result Trace TraceError) → Reads plain r (trace_at bytes) → IfOk r (λ t. IsWellFormed (plain t) × (bytes ≡ spelling (plain t)))
 is_found bytes (Ok t) read = trace_takes bytes (plain t) read
@@ -33,7 +34,7 @@ op_known texts (o ∷ ops) zero op known is =
     subst (IsKnownOp texts) e known.0
 op_known texts (o ∷ ops) (suc at) op known is = op_known texts ops at op known.1 is
 
-known_name : (texts : List Name) (track : Option TextId) (ops : List Op) (reports : ℕ) → IsKnownSoFar texts track ops reports → (t : ℕ) (found : Track) → slice_get (begun track ops) t ≡ Some found → IsKnown texts found.name
+known_name : (texts : List Name) (track : Option TextId) (ops : List Op) (reports : ℕ) → IsKnownSoFar texts track ops reports → (t : ℕ) (found : Track) → slice_get (tracks_so_far track ops) t ≡ Some found → IsKnown texts found.name
 known_name texts None ops reports known t found is = absurd cc
 known_name texts (Some name) ops reports known zero found is =
     let first : Track = record { name = name; ops = ops } in
@@ -41,13 +42,13 @@ known_name texts (Some name) ops reports known zero found is =
     subst (λ (x : Track). IsKnown texts x.name) e known.0
 known_name texts (Some name) ops reports known (suc t) found is = absurd cc
 
-known_op : (texts : List Name) (track : Option TextId) (ops : List Op) (reports : ℕ) → IsKnownSoFar texts track ops reports → (t at : ℕ) (op : Op) → op_at (begun track ops) t at ≡ Some op → IsKnownOp texts op × (at < MAX_OPS)
+known_op : (texts : List Name) (track : Option TextId) (ops : List Op) (reports : ℕ) → IsKnownSoFar texts track ops reports → (t at : ℕ) (op : Op) → op_at (tracks_so_far track ops) t at ≡ Some op → IsKnownOp texts op × (at < MAX_OPS)
 known_op texts None ops reports known t at op is = absurd cc
 known_op texts (Some name) ops reports known zero at op is = (op_known texts ops at op known.1 is, omega (arith, slice_get_within ops at op is, known.2))
 known_op texts (Some name) ops reports known (suc t) at op is = absurd cc
 
 -- a trace of one track or none
-pub trace_known : (trace : Trace) (track : Option TextId) (ops : List Op) (reports : ℕ) → trace.tracks ≡ begun track ops → IsKnownSoFar trace.texts track ops reports → IsKnownTrace trace
+pub trace_known : (trace : Trace) (track : Option TextId) (ops : List Op) (reports : ℕ) → trace.tracks ≡ tracks_so_far track ops → IsKnownSoFar trace.texts track ops reports → IsKnownTrace trace
 trace_known trace track ops reports is known =
     let at = by track known in
     record {
@@ -57,6 +58,6 @@ trace_known trace track ops reports is known =
       count = omega (arith, ap op_count is, at.1);
     }
   where
-    by : (o : Option TextId) → IsKnownSoFar trace.texts o ops reports → (length (begun o ops) ≤ 1) × (op_count (begun o ops) ≤ MAX_OPS)
+    by : (o : Option TextId) → IsKnownSoFar trace.texts o ops reports → (length (tracks_so_far o ops) ≤ 1) × (op_count (tracks_so_far o ops) ≤ MAX_OPS)
     by None h = (omega arith, omega arith)
     by (Some name) h = (omega arith, omega (arith, h.2))

@@ -4,16 +4,17 @@ use Rattle.std.specs.Prelude.{unwrap_or}
 use Rattle.std.specs.List.{AllByRecursion, list_any}
 use Rattle.std.specs.Str.{bytes_eq}
 use Rattle.std.proofs.lemmas.Option.{slice_get_within}
-use Rattle.mem_base.specs.Texts.{interned}
+use Rattle.mem_base.specs.Texts.{with_text}
 use Rattle.mem_base.specs.declared.texts.TextId.{TextId}
 use Rattle.mem_base.specs.declared.trace.Op.{Op}
 use Rattle.mem_base.specs.declared.trace.Op.TheVariants.{Acquire, Release, Malloc, Free, Poke, Peek, Heap, Refuse}
-use Rattle.trace_model.specs.Plain.{Name, malloc, free, poke, peek, text_at, action_of}
-use Rattle.trace_model.specs.Spelling.{is_report, reports_in}
+use Rattle.mem_base.specs.Name.{Name}
+use Rattle.trace_model.specs.Plain.{malloc, free, poke, peek, text_at, action_of, is_report}
+use Rattle.trace_model.specs.Spelling.{reports_in}
 use Rattle.trace_model.specs.Known.{IsKnown, IsKnownOp}
 use Rattle.trace_reader.specs.Progress.{Extends, so_far, IsKnownSoFar, is_report_op}
 
-pub interned_extends : (texts : List Name) (text : Name) → Extends texts (interned texts text)
+pub interned_extends : (texts : List Name) (text : Name) → Extends texts (with_text texts text)
 interned_extends texts text = by (list_any (bytes_eq text) texts)
   where
     by : (b : Bool) → Extends texts (cond b texts (texts ++ text ∷ []))
@@ -74,7 +75,7 @@ pub so_far_stays : (texts news : List Name) (track : Option TextId) (ops : List 
 so_far_stays texts news None ops reports grows known = refl
 so_far_stays texts news (Some name) ops reports grows known =
     ap (λ (ts : List Name). so_far ts (Some name) ops) grows.grown
-    ∙ (λ i. record { tracks = record { name = text_stays texts grows.more name known.0 i; actions = actions_stay texts grows.more ops known.1 i } ∷ [] })
+    ∙ (λ i. record { tracks = record { name = text_stays texts grows.more name known.0 i; actions = actions_stay texts grows.more ops known.1 i } ∷ []; picks = [] })
 
 pub ops_still_known : (texts news : List Name) (name : TextId) (ops : List Op) (reports : ℕ) → Extends texts news → IsKnownSoFar texts (Some name) ops reports
     → IsKnown news name × AllByRecursion (IsKnownOp news) ops × (length news ≤ length ops + 3) × (reports ≡ reports_in (map (action_of news) ops))

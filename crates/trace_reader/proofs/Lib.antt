@@ -1,6 +1,6 @@
-pub mod ActionSteps
-pub mod Found
-pub mod Growth
-pub mod HexPairs
-pub mod LineSteps
-pub mod Parts
+mod ActionSteps
+mod Found
+mod Growth
+mod HexPairs
+mod LineSteps
+mod Parts

@@ -3,14 +3,14 @@ use Rattle.std.proofs.Common.{◌≡◌, ℕ, ◌+◌, Bool, List, ◌∷◌, Re
 use Rattle.std.specs.List.{slice_split}
 use Rattle.trace_model.specs.Plain.{PlainTrace}
 use Rattle.trace_model.specs.declared.cause.TraceCause.{TraceCause}
-use Rattle.trace_model.specs.Reading.{Place, then_lines, line_at, lines_at}
-use Rattle.trace_model.proofs.LineSteps.{with_line}
+use Rattle.trace_model.specs.Reading.{Stop, then_lines, line_at, lines_at}
+use Rattle.trace_model.proofs.CallerLemmas.{with_line}
 use Rattle.trace_reader.specs.declared.error.LineError.{LineError}
 use Rattle.trace_reader.specs.declared.error.LineError.TheVariants as line
-use Rattle.trace_reader.specs.Answers.{Fails, placed, Stops}
+use Rattle.trace_reader.specs.Answers.{Fails, at_line, Stops}
 
-module _ (p : ℕ → Bool) (k : ℕ) (t : PlainTrace) (rest text after : List ℕ) (total : Result PlainTrace Place) (parts : slice_split p rest ≡ text ∷ slice_split p after) (read_so_far : lines_at k t (slice_split p rest) ≡ total) where
-  abbrev followed : Result PlainTrace TraceCause → Result PlainTrace Place
+module _ (p : ℕ → Bool) (k : ℕ) (t : PlainTrace) (rest text after : List ℕ) (total : Result PlainTrace Stop) (parts : slice_split p rest ≡ text ∷ slice_split p after) (read_so_far : lines_at k t (slice_split p rest) ≡ total) where
+  abbrev followed : Result PlainTrace TraceCause → Result PlainTrace Stop
   followed r = then_lines k r (λ u. lines_at (k + 1) u (slice_split p after))
 
   one_more : followed (line_at t text) ≡ total
@@ -19,6 +19,6 @@ module _ (p : ℕ → Bool) (k : ℕ) (t : PlainTrace) (rest text after : List �
   pub goes_on : (u : PlainTrace) → line_at t text ≡ Ok u → lines_at (k + 1) u (slice_split p after) ≡ total
   goes_on u read = sym (ap followed read) ∙ one_more
 
-  pub stops : (e : LineError) → Fails e (line_at t text) → Stops (placed k e) total
+  pub stops : (e : LineError) → Fails e (line_at t text) → Stops (at_line k e) total
   stops line.OutOfMemory read = tt
   stops (line.Wrong c) read = sym one_more ∙ ap followed read

@@ -1,7 +1,7 @@
 -- What the functions that read answer, beside what reading gives.
 use Rattle.std.specs.Prelude.{◌≡◌, ℕ, Result, Ok, Err}
 use Rattle.trace_model.specs.declared.cause.TraceCause.{TraceCause}
-use Rattle.trace_model.specs.Reading.{Place}
+use Rattle.trace_model.specs.Reading.{Stop}
 use Rattle.trace_reader.specs.declared.error.LineError.{LineError}
 use Rattle.trace_reader.specs.declared.error.LineError.TheVariants as line
 use Rattle.trace_reader.specs.declared.error.TraceError.{TraceError}
@@ -22,16 +22,16 @@ Gives view (Err e) read = Fails e read
 -- ---- of a whole trace
 
 -- a fault of the line with that number
-abbrev pub placed : ℕ → LineError → TraceError
-placed k line.OutOfMemory = whole.OutOfMemory
-placed k (line.Wrong c) = whole.At k c
+abbrev pub at_line : ℕ → LineError → TraceError
+at_line k line.OutOfMemory = whole.OutOfMemory
+at_line k (line.Wrong c) = whole.At k c
 
--- the place at which reading stops, unless memory ran out
-abbrev pub Stops : {Y : Type 0} → TraceError → Result Y Place → Type 0
+-- the line at which reading stops, unless memory ran out
+abbrev pub Stops : {Y : Type 0} → TraceError → Result Y Stop → Type 0
 Stops whole.OutOfMemory read = Unit {0}
 Stops (whole.At k c) read = read ≡ Err (k, c)
 
 -- what a function answered, seen by view, is what reading gives, unless memory ran out
-abbrev pub Reads : {X Y : Type 0} → (X → Y) → Result X TraceError → Result Y Place → Type 0
+abbrev pub Reads : {X Y : Type 0} → (X → Y) → Result X TraceError → Result Y Stop → Type 0
 Reads view (Ok x) read = read ≡ Ok (view x)
 Reads view (Err e) read = Stops e read

@@ -5,8 +5,9 @@ use Rattle.mem_base.specs.declared.limits.TheConstants.{MAX_OPS, MAX_REPORTS}
 use Rattle.mem_base.specs.declared.trace.Op.{Op}
 use Rattle.mem_base.specs.declared.trace.Track.{Track}
 use Rattle.mem_base.specs.declared.texts.TextId.{TextId}
-use Rattle.trace_model.specs.Plain.{Name, PlainTrace, action_of, tracks_of}
-use Rattle.trace_model.specs.Spelling.{is_report, reports_in}
+use Rattle.mem_base.specs.Name.{Name}
+use Rattle.trace_model.specs.Plain.{PlainTrace, action_of, tracks_of, is_report}
+use Rattle.trace_model.specs.Spelling.{reports_in}
 use Rattle.trace_model.specs.Known.{IsKnown, IsKnownOp}
 use Rattle.trace_model.specs.declared.cause.TraceCause.{TraceCause}
 use Rattle.trace_model.specs.declared.cause.TraceCause.TheVariants.{TooMany}
@@ -17,14 +18,14 @@ pub record Extends (old new : List Name) : Type 0 where
   pub few : length more ≤ 1
   pub grown : new ≡ old ++ more
 
--- the track that has been begun, if any, with its operations
-abbrev pub begun : Option TextId → List Op → List Track
-begun None ops = []
-begun (Some name) ops = record { name = name; ops = ops } ∷ []
+-- the track, where one was begun, with its operations
+abbrev pub tracks_so_far : Option TextId → List Op → List Track
+tracks_so_far None ops = []
+tracks_so_far (Some name) ops = record { name = name; ops = ops } ∷ []
 
 -- the trace of the lines that were read
 abbrev pub so_far : List Name → Option TextId → List Op → PlainTrace
-so_far texts track ops = record { tracks = tracks_of texts (begun track ops) }
+so_far texts track ops = record { tracks = tracks_of texts (tracks_so_far track ops); picks = [] }
 
 -- each number is in the table, there are no operations before a track, each line has added one text at most,
 -- and the operations that print more than a reply were counted, and are not too many
@@ -38,7 +39,7 @@ abbrev pub is_report_op : Op → Bool
 is_report_op op = is_report (action_of [] op)
 
 -- the operations with one more, and how many of them print more than a reply, if there is room for it
-abbrev pub pushed : List Op → ℕ → Op → Result (List Op × ℕ) TraceCause
-pushed ops reports op =
+abbrev pub push : List Op → ℕ → Op → Result (List Op × ℕ) TraceCause
+push ops reports op =
     if nat_lt (length ops) MAX_OPS && (not (is_report_op op) || nat_lt reports MAX_REPORTS) then Ok (ops ++ op ∷ [], if is_report_op op then reports + 1 else reports)
     else Err TooMany

@@ -1,3 +1,4 @@
+//! Why reading stopped: of a line, and of the whole trace with the line's number.
 ghost use Rattle.std.specs.Prelude.{◌≡◌};
 ghost use Rattle.trace_reader.specs.declared.error.LineError.TheVariants.{OutOfMemory, Wrong};
 

@@ -1,3 +1,5 @@
+//! A whole trace, read line by line in one pass: the header, then each line with its number, until one
+//! is faulty or none is left.
 ghost use Rattle.std.specs.Prelude.{◌≡◌, ◌==◌, IfOk, Ok};
 ghost use Rattle.std.specs.List.{slice_split};
 ghost use Rattle.std.specs.Str.{bytes_eq};
@@ -6,8 +8,8 @@ ghost use Rattle.trace_model.specs.Known.{IsKnownTrace};
 ghost use Rattle.trace_model.specs.Spelling.{line_end, header, spelling, IsWellFormed};
 ghost use Rattle.trace_model.specs.Reading.{trace_at, lines_at, opening};
 ghost use Rattle.trace_model.specs.Reading as Reading;
-ghost use Rattle.trace_reader.specs.Progress.{begun, so_far, IsKnownSoFar};
-ghost use Rattle.trace_reader.specs.Answers.{Reads, placed};
+ghost use Rattle.trace_reader.specs.Progress.{tracks_so_far, so_far, IsKnownSoFar};
+ghost use Rattle.trace_reader.specs.Answers.{Reads, at_line};
 
 use crate::error::{LineError, TraceError};
 use crate::progress::Progress;
@@ -47,7 +49,7 @@ fn read(alloc: Global, bytes: &[u8]) -> Result<Trace, TraceError>
         }
         None => Err(TraceError::At {
             line: 1,
-            cause: unended(bytes),
+            cause: end_cause(bytes),
         }),
     }
 }
@@ -59,8 +61,8 @@ fn is_header(line: &[u8]) -> bool
 }
 
 // What is wrong with a first line that has no end.
-fn unended(line: &[u8]) -> TraceCause
-    ensures { result ≡ Reading.unended line.now }
+fn end_cause(line: &[u8]) -> TraceCause
+    ensures { result ≡ Reading.end_cause line.now }
 {
     if line.is_empty() {
         TraceCause::BadHeader
@@ -99,7 +101,7 @@ fn read_lines(alloc: Global, bytes: &[u8]) -> Result<Trace, TraceError>
 
 // The error of a line, with its number.
 fn at(line: u64, error: LineError) -> TraceError
-    ensures { result ≡ placed line error }
+    ensures { result ≡ at_line line error }
 {
     match error {
         LineError::OutOfMemory => TraceError::OutOfMemory,
@@ -109,7 +111,7 @@ fn at(line: u64, error: LineError) -> TraceError
 
 // The track that has been begun, if any.
 fn tracks(alloc: Global, track: Option<TextId>, ops: List<Op>) -> Result<List<Track>, AllocError>
-    ensures { IfOk result (λ tracks. tracks ≡ begun track ops) }
+    ensures { IfOk result (λ tracks. tracks ≡ tracks_so_far track ops) }
 {
     let mut tracks = List::new(alloc);
     if let Some(name) = track {

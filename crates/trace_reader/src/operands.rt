@@ -1,46 +1,37 @@
+//! Each kind of operand of a line, read from its word: `Ok` of what the word spells, or the first
+//! cause for which it is refused. Words are bytes, and nothing is copied but the bytes of a poke.
 ghost use Rattle.std.specs.Prelude.{◌≡◌, ◌*◌, ◌+◌, ◌-◌, ◌^◌, ◌≤◌, ◌&&◌, nat_lt, length, IfOk, Some, None, if◌then◌else◌};
 ghost use Rattle.std.specs.List.{list_all};
-ghost use Rattle.block_model.specs.Block.{IsOffset};
-ghost use Rattle.trace_model.specs.Spelling.{is_between, is_name_byte};
-ghost use Rattle.trace_model.specs.Reading.{digits_from, number_at, offset_at, forward_at, backward_at, number_in, count_at, refusal_at, name_at, letter_at, side_at, hex_from, hex_at, keyword_at, digit_of};
+ghost use Rattle.mem_base.specs.Offset.{IsOffset};
+ghost use Rattle.trace_model.specs.Operands.{is_between, is_name_byte, digits_from, number_at, offset_at, forward_at, backward_at, number_in, count_at, refusal_at, name_at, letter_at, side_at, hex_from, hex_at, digit_of};
+ghost use Rattle.trace_model.specs.Reading.{head_at};
 ghost use Rattle.trace_reader.specs.Answers.{Gives};
 
 use crate::error::LineError;
 use mem_base::limits::{MAX_NAME, MAX_REACH, MAX_REFUSAL};
 use mem_base::{Letter, List, Side};
 use std::alloc::Global;
-use trace_model::{Keyword, TraceCause};
+use trace_model::{Head, Keyword, TraceCause};
 
-/// The first word of a line.
-pub fn read_keyword(word: &[u8]) -> Result<Keyword, TraceCause>
-    ensures { result ≡ keyword_at word.now }
+/// What the first word of a line begins.
+pub fn head(word: &[u8]) -> Result<Head, TraceCause>
+    ensures { result ≡ head_at word.now }
 {
-    if word == b"track".as_slice() {
-        Ok(Keyword::Track)
-    } else if word == b"acquire".as_slice() {
-        Ok(Keyword::Acquire)
-    } else if word == b"release".as_slice() {
-        Ok(Keyword::Release)
-    } else if word == b"malloc".as_slice() {
-        Ok(Keyword::Malloc)
-    } else if word == b"free".as_slice() {
-        Ok(Keyword::Free)
-    } else if word == b"poke".as_slice() {
-        Ok(Keyword::Poke)
-    } else if word == b"peek".as_slice() {
-        Ok(Keyword::Peek)
-    } else if word == b"heap".as_slice() {
-        Ok(Keyword::Heap)
-    } else if word == b"refuse".as_slice() {
-        Ok(Keyword::Refuse)
-    } else {
-        Err(TraceCause::UnknownWord)
+    if word == Head::Track.word().as_bytes() {
+        return Ok(Head::Track);
     }
+    for keyword in &Keyword::all() {
+        if word == keyword.word().as_bytes() {
+            return Ok(Head::Op(*keyword));
+        }
+    }
+    Err(TraceCause::UnknownWord)
 }
 
 // The number with one more digit, where it fits.
 fn with_digit(value: u64, byte: u8) -> Option<u64>
-    ensures { result ≡ (if is_between 48 57 byte && nat_lt (value * 10 + (byte - 48)) (2 ^ 64) then Some (value * 10 + (byte - 48)) else None) }
+    ensures { result ≡ (let next = value * 10 + (byte - 48) in
+        if is_between 48 57 byte && nat_lt next (2 ^ 64) then Some next else None) }
 {
     if byte < b'0' || byte > b'9' {
         return None;
@@ -97,7 +88,7 @@ fn backward(value: u64) -> Result<i64, TraceCause>
 }
 
 /// An offset from a block's data.
-#[tactic(auto, unfolding(trace_model::specs::Reading::offset_at))]
+#[tactic(auto, unfolding(trace_model::specs::Operands::offset_at))]
 pub fn offset(word: &[u8]) -> Result<i64, TraceCause>
     ensures value { result ≡ offset_at word.now }
     ensures range { IfOk result IsOffset }
@@ -109,7 +100,7 @@ pub fn offset(word: &[u8]) -> Result<i64, TraceCause>
 }
 
 // A number from `least` to `most`.
-#[tactic(auto, unfolding(trace_model::specs::Reading::number_in))]
+#[tactic(auto, unfolding(trace_model::specs::Operands::number_in))]
 fn number_in(word: &[u8], least: u64, most: u64) -> Result<u64, TraceCause>
     ensures value { result ≡ number_in least most word.now }
     ensures range { IfOk result (λ n. (least ≤ n) × (n ≤ most)) }
@@ -164,7 +155,7 @@ pub fn name(word: &[u8]) -> Result<(), TraceCause>
 }
 
 /// The letter of a domain.
-#[tactic(auto, unfolding(trace_model::specs::Reading::letter_at))]
+#[tactic(auto, unfolding(trace_model::specs::Operands::letter_at))]
 pub fn letter(word: &[u8]) -> Result<Letter, TraceCause>
     ensures { result ≡ letter_at word.now }
 {
@@ -180,7 +171,7 @@ pub fn letter(word: &[u8]) -> Result<Letter, TraceCause>
 }
 
 /// The source that refuses.
-#[tactic(auto, unfolding(trace_model::specs::Reading::side_at))]
+#[tactic(auto, unfolding(trace_model::specs::Operands::side_at))]
 pub fn side(word: &[u8]) -> Result<Side, TraceCause>
     ensures { result ≡ side_at word.now }
 {
@@ -223,7 +214,7 @@ fn hex_bytes(alloc: Global, word: &[u8]) -> Result<Vec<u8>, LineError>
 }
 
 /// The bytes of a poke.
-#[tactic(auto, unfolding(trace_model::specs::Reading::hex_at))]
+#[tactic(auto, unfolding(trace_model::specs::Operands::hex_at))]
 pub fn hex(alloc: Global, word: &[u8]) -> Result<List<u8>, LineError>
     ensures value { Gives (λ v. v) result (hex_at word.now) }
     ensures range { IfOk result (λ v. (1 ≤ length v) × (length v ≤ MAX_REACH)) }

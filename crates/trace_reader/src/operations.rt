@@ -1,8 +1,10 @@
-ghost use Rattle.std.specs.Prelude.{◌≡◌, ◌-◌, ◌<◌, ◌^◌, length, map, IfOk, slice_get, Some, Ok, Err, false, if◌then◌else◌};
-ghost use Rattle.trace_model.specs.Plain.{Name, action_of};
+//! Operations, read from the words of their lines. The operands are read from left to right, then what
+//! they say together is checked, and the block's name goes into the table last.
+ghost use Rattle.std.specs.Prelude.{◌≡◌, ◌-◌, ◌<◌, ◌^◌, length, map, IfOk, slice_get, Some, Ok, Err, if◌then◌else◌};
+ghost use Rattle.mem_base.specs.Name.{Name};
+ghost use Rattle.trace_model.specs.Operands.{is_forged};
+ghost use Rattle.trace_model.specs.Plain.{action_of, malloc_at, free_at, poke_at, peek_at, refuse_at, action_at};
 ghost use Rattle.trace_model.specs.Known.{IsKnown, IsKnownOp};
-ghost use Rattle.trace_model.specs.Spelling.{is_forged};
-ghost use Rattle.trace_model.specs.Reading.{malloc_at, free_at, poke_at, peek_at, refuse_at, action_at, is_track};
 ghost use Rattle.trace_model.specs.declared.cause.TraceCause.TheVariants.{ForgedLetter};
 ghost use Rattle.trace_reader.specs.Answers.{Gives};
 ghost use Rattle.trace_reader.specs.Progress.{Extends};
@@ -24,7 +26,7 @@ pub fn intern(texts: &mut Texts, name: &[u8]) -> Result<TextId, AllocError>
     texts.intern(name)
 }
 
-#[tactic(auto, unfolding(trace_model::specs::Reading::malloc_at))]
+#[tactic(auto, unfolding(trace_model::specs::Plain::malloc_at))]
 fn malloc(texts: &mut Texts, domain: &[u8], block: &[u8], size: &[u8]) -> Result<Op, LineError>
     requires { length texts.old < 2 ^ 32 - 1 }
     ensures grows { Extends texts.old texts.new }
@@ -37,7 +39,7 @@ fn malloc(texts: &mut Texts, domain: &[u8], block: &[u8], size: &[u8]) -> Result
     Ok(Op::Malloc(domain, intern(texts, block)?, size))
 }
 
-#[tactic(auto, unfolding(trace_model::specs::Reading::free_at))]
+#[tactic(auto, unfolding(trace_model::specs::Plain::free_at))]
 fn free(texts: &mut Texts, domain: &[u8], block: &[u8]) -> Result<Op, LineError>
     requires { length texts.old < 2 ^ 32 - 1 }
     ensures grows { Extends texts.old texts.new }
@@ -50,7 +52,7 @@ fn free(texts: &mut Texts, domain: &[u8], block: &[u8]) -> Result<Op, LineError>
 }
 
 // Refuses a poke that would write a domain's letter where a block keeps its own.
-fn unforged(at: &i64, bytes: &List<u8>) -> Result<(), TraceCause>
+fn refuse_forged(at: &i64, bytes: &List<u8>) -> Result<(), TraceCause>
     ensures { result ≡ (if is_forged at.now bytes.now then Err ForgedLetter else Ok tt) }
 {
     if *at == -8 && matches!(bytes.as_slice().first(), Some(b'r' | b'm' | b'o')) {
@@ -59,7 +61,7 @@ fn unforged(at: &i64, bytes: &List<u8>) -> Result<(), TraceCause>
     Ok(())
 }
 
-#[tactic(auto, unfolding(trace_model::specs::Reading::poke_at))]
+#[tactic(auto, unfolding(trace_model::specs::Plain::poke_at))]
 fn poke(
     alloc: Global,
     texts: &mut Texts,
@@ -75,11 +77,11 @@ fn poke(
     name(block)?;
     let at = offset(at)?;
     let bytes = hex(alloc, digits)?;
-    unforged(&at, &bytes)?;
+    refuse_forged(&at, &bytes)?;
     Ok(Op::Poke(intern(texts, block)?, at, bytes))
 }
 
-#[tactic(auto, unfolding(trace_model::specs::Reading::peek_at))]
+#[tactic(auto, unfolding(trace_model::specs::Plain::peek_at))]
 fn peek(texts: &mut Texts, block: &[u8], at: &[u8], size: &[u8]) -> Result<Op, LineError>
     requires { length texts.old < 2 ^ 32 - 1 }
     ensures grows { Extends texts.old texts.new }
@@ -93,7 +95,7 @@ fn peek(texts: &mut Texts, block: &[u8], at: &[u8], size: &[u8]) -> Result<Op, L
 }
 
 // It names no block, so it is the same with every table.
-#[tactic(auto, unfolding(trace_model::specs::Reading::refuse_at))]
+#[tactic(auto, unfolding(trace_model::specs::Plain::refuse_at))]
 fn refuse(source: &[u8], request: &[u8]) -> Result<Op, LineError>
     ensures op { (texts : List Name) → Gives (action_of texts) result (refuse_at source.now request.now) }
     ensures known { IfOk result (λ op. (texts : List Name) → IsKnownOp texts op) }
@@ -103,15 +105,14 @@ fn refuse(source: &[u8], request: &[u8]) -> Result<Op, LineError>
 }
 
 /// The operation that the words after the keyword name.
-#[tactic(auto, unfolding(trace_model::specs::Reading::action_at))]
+#[tactic(auto, unfolding(trace_model::specs::Plain::action_at))]
 pub fn read_op(
     alloc: Global,
     texts: &mut Texts,
     keyword: Keyword,
     words: &[&[u8]],
 ) -> Result<Op, LineError>
-    requires operation { is_track keyword ≡ false }
-    requires room { length texts.old < 2 ^ 32 - 1 }
+    requires { length texts.old < 2 ^ 32 - 1 }
     ensures grows { Extends texts.old texts.new }
     ensures op { Gives (action_of texts.new) result (action_at keyword (map (λ w. w.now) words.now)) }
     ensures known { IfOk result (IsKnownOp texts.new) }
@@ -125,6 +126,16 @@ pub fn read_op(
         (Keyword::Peek, [block, at, size]) => peek(texts, block, at, size),
         (Keyword::Heap, []) => Ok(Op::Heap),
         (Keyword::Refuse, [source, request]) => refuse(source, request),
-        _ => Err(LineError::Wrong(TraceCause::BadWords)),
+        (
+            Keyword::Acquire
+            | Keyword::Release
+            | Keyword::Malloc
+            | Keyword::Free
+            | Keyword::Poke
+            | Keyword::Peek
+            | Keyword::Heap
+            | Keyword::Refuse,
+            _,
+        ) => Err(LineError::Wrong(TraceCause::BadWords)),
     }
 }

@@ -1,20 +1,23 @@
+//! What was read so far, one line more at a time. The track's operations stand in one list, and those
+//! that print more than a reply are counted, so that no line is read twice.
 ghost use Rattle.std.specs.Prelude.{◌≡◌, ◌≢◌, ◌+◌, ◌<◌, ◌≤◌, ◌-◌, ◌^◌, length, map, IfOk, OnOk, IsSome, slice_get, Some, Ok, Err, false, if◌then◌else◌};
 ghost use Rattle.std.specs.Str.{bytes_eq};
 ghost use Rattle.std.specs.List.{list_all, list_any};
-ghost use Rattle.trace_model.specs.Spelling.{is_between};
+ghost use Rattle.trace_model.specs.Operands.{is_between};
 ghost use Rattle.trace_model.specs.Reading.{line_at, words_at, item_at, start_at, is_empty, is_track, opening};
 ghost use Rattle.trace_model.specs.declared.cause.TraceCause.TheVariants.{SameTrack, TooMany};
+ghost use Rattle.trace_model.specs.declared.keyword.Head.TheVariants as heads;
 ghost use Rattle.trace_reader.specs.Answers.{Gives};
-ghost use Rattle.trace_reader.specs.Progress.{so_far, IsKnownSoFar, is_report_op, pushed};
+ghost use Rattle.trace_reader.specs.Progress.{so_far, IsKnownSoFar, is_report_op, push};
 
 use crate::error::LineError;
-use crate::operands::{name, read_keyword};
+use crate::operands::{head, name};
 use crate::operations::{intern, read_op};
 use crate::words::words_of;
 use mem_base::limits::{MAX_OPS, MAX_REPORTS};
 use mem_base::{List, Op, TextId, Texts};
 use std::alloc::{AllocError, Global};
-use trace_model::{Keyword, TraceCause};
+use trace_model::{Head, Keyword, TraceCause};
 
 /// What was read so far: the track, where there is one, and its operations.
 #[derive(Drop)]
@@ -30,12 +33,15 @@ pub struct Progress {
 fn is_report(op: &Op) -> bool
     ensures { result ≡ is_report_op op.now }
 {
-    matches!(op, Op::Heap)
+    match Keyword::of(op) {
+        Some(keyword) => keyword.prints_more(),
+        None => false,
+    }
 }
 
 // Adds an operation, if there is room for it.
 fn push_op(ops: &mut List<Op>, reports: &mut usize, op: Op) -> Result<(), LineError>
-    ensures { Gives (λ _. (ops.new, reports.new)) result (pushed ops.old reports.old op) }
+    ensures { Gives (λ _. (ops.new, reports.new)) result (push ops.old reports.old op) }
 {
     let report = is_report(&op);
     if ops.len() >= MAX_OPS || report && *reports >= MAX_REPORTS {
@@ -111,27 +117,27 @@ impl Progress {
         let Some((first, operands)) = words.split_first() else {
             return Err(LineError::Wrong(TraceCause::UnknownWord));
         };
-        let keyword = read_keyword(first)?;
-        if keyword != Keyword::Track && self.track.is_none() {
+        let head = head(first)?;
+        if matches!(head, Head::Op(_)) && self.track.is_none() {
             return Err(LineError::Wrong(TraceCause::Misplaced));
         }
         if has_empty(operands) {
             return Err(LineError::Wrong(TraceCause::BadWords));
         }
-        self.item(alloc, keyword, operands)
+        self.item(alloc, head, operands)
     }
 
     // Takes the operands of a line.
-    fn item(&mut self, alloc: Global, keyword: Keyword, words: &[&[u8]]) -> Result<(), LineError>
+    fn item(&mut self, alloc: Global, head: Head, words: &[&[u8]]) -> Result<(), LineError>
         requires known { IsKnownSoFar self.old.texts self.old.track self.old.ops self.old.reports }
-        requires begun { is_track keyword ≡ false → IsSome self.old.track }
+        requires track { is_track head ≡ false → IsSome self.old.track }
         ensures known { OnOk result (IsKnownSoFar self.new.texts self.new.track self.new.ops self.new.reports) }
         ensures read { Gives (λ _. so_far self.new.texts self.new.track self.new.ops) result
-            (item_at (so_far self.old.texts self.old.track self.old.ops) keyword (map (λ w. w.now) words.now)) }
+            (item_at (so_far self.old.texts self.old.track self.old.ops) head (map (λ w. w.now) words.now)) }
     {
-        match keyword {
-            Keyword::Track => self.start(words),
-            _ => self.action(alloc, keyword, words),
+        match head {
+            Head::Track => self.start(words),
+            Head::Op(keyword) => self.action(alloc, keyword, words),
         }
     }
 
@@ -156,11 +162,10 @@ impl Progress {
     // Takes the operands of an operation.
     fn action(&mut self, alloc: Global, keyword: Keyword, words: &[&[u8]]) -> Result<(), LineError>
         requires known { IsKnownSoFar self.old.texts self.old.track self.old.ops self.old.reports }
-        requires operation { is_track keyword ≡ false }
-        requires begun { IsSome self.old.track }
+        requires track { IsSome self.old.track }
         ensures known { OnOk result (IsKnownSoFar self.new.texts self.new.track self.new.ops self.new.reports) }
         ensures read { Gives (λ _. so_far self.new.texts self.new.track self.new.ops) result
-            (item_at (so_far self.old.texts self.old.track self.old.ops) keyword (map (λ w. w.now) words.now)) }
+            (item_at (so_far self.old.texts self.old.track self.old.ops) (heads.Op keyword) (map (λ w. w.now) words.now)) }
     {
         let op = read_op(alloc, &mut self.texts, keyword, words)?;
         push_op(&mut self.ops, &mut self.reports, op)

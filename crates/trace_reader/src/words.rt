@@ -1,3 +1,4 @@
+//! Where lines end, and where words do.
 ghost use Rattle.std.specs.Prelude.{◌≡◌, ◌==◌, ◌<◌, ◌∷◌, [], length, map, IfOk, MatchOption};
 ghost use Rattle.std.specs.List.{slice_split};
 ghost use Rattle.trace_model.specs.Spelling.{blank, line_end};

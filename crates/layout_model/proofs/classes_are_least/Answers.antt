@@ -1,4 +1,4 @@
-use Rattle.layout_model.proofs.Sizes.{classes_are_least}
+use Rattle.layout_model.proofs.Classes.{classes_are_least}
 use Rattle.layout_model.proofs.classes_are_least.Goals as goal
 
 pub returns : goal.returns

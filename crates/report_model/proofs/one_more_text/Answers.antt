@@ -1,4 +1,4 @@
-use Rattle.report_model.proofs.ReportLaws.{one_more}
+use Rattle.report_model.proofs.CallerLemmas.{one_more}
 use Rattle.report_model.proofs.one_more_text.Goals as goal
 
 pub returns : goal.returns

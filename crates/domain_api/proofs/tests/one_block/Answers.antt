@@ -1,4 +1,5 @@
 use Rattle.std.proofs.Common.{true, ap, subst}
+use Rattle.block_model.specs.Block.{new_byte}
 use Rattle.domain_api.specs.Held.{DomainsView}
 use Rattle.domain_api.specs.Domains.{IsMade}
 use Rattle.domain_api.specs.declared.answers.Got.{Got}
@@ -10,15 +11,15 @@ drop_block-requires-clause-loan g c =
     let old = c.in_ok-domains.domains in
     let new = c.malloc.new.self in
     let asked = c.in-Ok.made.asked in
-    let made = subst (λ (got : Got). IsMade c.args.letter c.args.n true old new got asked) c.in-Block.is c.in-Ok.ensures.made in
-    lent_is_loan c.args.letter c.args.n c.in-Block.block asked old new made.1.1
+    let made = subst (λ (got : Got). IsMade c.args.letter c.args.n new_byte true old new got asked) c.in-Block.is c.in-Ok.ensures.made in
+    lent_is_loan c.args.letter c.args.n new_byte c.in-Block.block asked old new made.1.1
 
 pub end-requires-in-Block-clause-none : goal.end-requires-in-Block-clause-none
 end-requires-in-Block-clause-none g c =
     let old = c.in_ok-domains.domains in
     let new = c.malloc.new.self in
     let asked = c.in-Ok.made.asked in
-    let made = subst (λ (got : Got). IsMade c.args.letter c.args.n true old new got asked) c.in-Block.is c.in-Ok.ensures.made in
+    let made = subst (λ (got : Got). IsMade c.args.letter c.args.n new_byte true old new got asked) c.in-Block.is c.in-Ok.ensures.made in
     let none = c.in_ok-domains.ensures.empty in
-    all_given_up c.args.letter c.args.n c.in-Block.block asked old new c.drop_block.new.self made.1.1 c.drop_block.ensures.back
+    all_given_up c.args.letter c.args.n new_byte c.in-Block.block asked old new c.drop_block.new.self made.1.1 c.drop_block.ensures.back
     (ap (λ (d : DomainsView). d.heap.loans) none) (ap (λ (d : DomainsView). d.raws) none)

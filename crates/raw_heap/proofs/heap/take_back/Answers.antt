@@ -6,7 +6,7 @@ use Rattle.extents.specs.Extent.{piece_extent, region_extent}
 use Rattle.extents.specs.Sums.{Removed}
 use Rattle.extents.proofs.Addresses.{same_extent}
 use Rattle.raw_heap.specs.Kept.{AreKept, blocks}
-use Rattle.raw_heap.proofs.Blocks.{found, not_none, region_of, may_mend, mended, kept_fewer}
+use Rattle.raw_heap.proofs.Blocks.{entry, not_none, region_of, may_mend, mends_whole, kept_fewer}
 use Rattle.raw_heap.proofs.heap.take_back.Goals as goal
 
 pub unreachable-requires : goal.unreachable-requires
@@ -21,20 +21,20 @@ pub returns-clause-region : goal.returns-clause-region
 returns-clause-region c =
     let es = c.args.regions.now.entries in let p = c.args.piece in let region = c.in-Some.region in
     let r = region_of es c.requires.kept p c.requires.loan c.place.result c.remove.result c.place.ensures c.remove.ensures.value region c.in-Some.is in
-    let m = mended p region.cells c.mend.new.self.cells (p.place - region.base) (omega (arith, r.base)) r.len c.mend.ensures.cells in
+    let m = mends_whole p region.cells c.mend.new.self.cells (p.place - region.base) (omega (arith, r.base)) r.len c.mend.ensures.cells in
     same_extent (region_extent c.mend.new.self) (piece_extent p) (c.mend.ensures.same.0 ∙ r.base) m.1 (c.mend.ensures.same.1 ∙ sym r.maker)
 
 pub returns-clause-whole : goal.returns-clause-whole
 returns-clause-whole c =
     let es = c.args.regions.now.entries in let p = c.args.piece in let region = c.in-Some.region in
     let r = region_of es c.requires.kept p c.requires.loan c.place.result c.remove.result c.place.ensures c.remove.ensures.value region c.in-Some.is in
-    (mended p region.cells c.mend.new.self.cells (p.place - region.base) (omega (arith, r.base)) r.len c.mend.ensures.cells).0
+    (mends_whole p region.cells c.mend.new.self.cells (p.place - region.base) (omega (arith, r.base)) r.len c.mend.ensures.cells).0
 
 pub returns-clause-back : goal.returns-clause-back
 returns-clause-back c =
     let es = c.args.regions.now.entries in
     subst (λ l. Removed (piece_extent c.args.piece) (blocks es) (blocks l)) (sym (c.remove.ensures.entries ∙ ap (λ k. remove_entry (is_at (nat_cmp k)) es) c.place.ensures))
-    (found es c.requires.kept c.args.piece c.requires.loan).removed
+    (entry es c.requires.kept c.args.piece c.requires.loan).removed
 
 pub returns-clause-kept : goal.returns-clause-kept
 returns-clause-kept c =

@@ -1,6 +1,6 @@
 use Rattle.extents.specs.Extent.{piece_extent}
 use Rattle.extents.proofs.Lists.{has_new}
-use Rattle.raw_heap.proofs.Got.{got_block, came_and_went}
+use Rattle.raw_heap.proofs.Got.{got_block, comes_and_goes}
 use Rattle.raw_heap.proofs.tests.one_block.Goals as goal
 
 pub free-requires-clause-loan : goal.free-requires-clause-loan
@@ -9,4 +9,4 @@ free-requires-clause-loan g c =
 
 pub returns-in-Some-clause-same : goal.returns-in-Some-clause-same
 returns-in-Some-clause-same g c =
-    let block = got_block c.args.n c.args.heap.now c.alloc.new.self _ _ c.in_ok-piece.ensures.got c.in-Some.piece c.in-Some.is in came_and_went (piece_extent c.in-Some.piece) _ _ _ block.added c.free.ensures.back
+    let block = got_block c.args.n c.args.heap.now c.alloc.new.self _ _ c.in_ok-piece.ensures.got c.in-Some.piece c.in-Some.is in comes_and_goes (piece_extent c.in-Some.piece) _ _ _ block.added c.free.ensures.back

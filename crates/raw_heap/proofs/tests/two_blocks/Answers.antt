@@ -2,7 +2,7 @@ use Rattle.std.proofs.Common.{◌≤◌, length, sym, ap, arith}
 use Rattle.extents.specs.Extent.{piece_extent}
 use Rattle.extents.proofs.Lists.{has_new, has_other, length_inserted}
 use Rattle.extents.proofs.Addresses.{meets_other}
-use Rattle.raw_heap.proofs.Got.{got_block, got_none, crossed}
+use Rattle.raw_heap.proofs.Got.{got_block, got_none, comes_before_it_goes}
 use Rattle.raw_heap.proofs.tests.two_blocks.Goals as goal
 
 pub free-requires-clause-loan : goal.free-requires-clause-loan
@@ -13,7 +13,7 @@ free-requires-clause-loan g c =
 pub returns-in_err-piece-2-clause-same : goal.returns-in_err-piece-2-clause-same
 returns-in_err-piece-2-clause-same g c =
     let first = got_block c.args.n c.args.heap.now c.alloc.new.self _ _ c.in_ok-piece.ensures.got c.in-Some.first c.in-Some.is in
-    crossed (piece_extent c.in-Some.first) c.args.heap.now c.alloc.new.self c.alloc-second.new.self c.free.new.self first.added (ap length c.in_err-piece-2.ensures.failed.0) c.free.ensures.back
+    comes_before_it_goes (piece_extent c.in-Some.first) c.args.heap.now c.alloc.new.self c.alloc-second.new.self c.free.new.self first.added (ap length c.in_err-piece-2.ensures.failed) c.free.ensures.back
 
 pub free-requires-in-Some-piece-clause-loan : goal.free-requires-in-Some-piece-clause-loan
 free-requires-in-Some-piece-clause-loan g c =
@@ -41,4 +41,4 @@ pub returns-in-None-clause-same : goal.returns-in-None-clause-same
 returns-in-None-clause-same g c =
     let first = got_block c.args.n c.args.heap.now c.alloc.new.self _ _ c.in_ok-piece.ensures.got c.in-Some.first c.in-Some.is in
     let none = got_none c.args.m c.alloc.new.self c.alloc-second.new.self _ _ c.in_ok-piece-2.ensures.got c.in-None.is in
-    crossed (piece_extent c.in-Some.first) c.args.heap.now c.alloc.new.self c.alloc-second.new.self c.free.new.self first.added (ap length none) c.free.ensures.back
+    comes_before_it_goes (piece_extent c.in-Some.first) c.args.heap.now c.alloc.new.self c.alloc-second.new.self c.free.new.self first.added (ap length none) c.free.ensures.back

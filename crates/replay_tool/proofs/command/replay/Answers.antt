@@ -1,18 +1,18 @@
-use Rattle.std.proofs.Common.{ℕ, List, [], Err, ap, subst, ◌∙◌, ◌≡◌}
+use Rattle.std.proofs.Common.{ℕ, List, [], refl, ap, sym, subst, ◌∙◌, arith}
+use Rattle.std.proofs.KnownBytes.{Appends-nil}
 use Rattle.extents.specs.Extent.{Extent}
 use Rattle.sources.specs.Holder.{Traded}
 use Rattle.sources.specs.Source.{ArenaShape, SourceView}
-use Rattle.sources.proofs.Holders.{traded_then}
-use Rattle.mem_base.specs.declared.history.Entry.{Entry}
-use Rattle.trace_model.specs.Plain.{PlainTrack}
-use Rattle.machine_core.specs.View.{tracks_of}
-use Rattle.replay_tool.specs.declared.events.Halt.{Halt}
-use Rattle.replay_tool.specs.Events.{Ending, whole, cut, ran_out}
-use Rattle.replay_tool.specs.Served.{both, shaped, Sources}
-use Rattle.replay_tool.proofs.Kept.{at_end, at_ok}
-use Rattle.replay_tool.proofs.ServedLaws.{none_out, served_ended, nearly_ended}
+use Rattle.sources.proofs.CallerLemmas.{traded_then}
+use Rattle.trace_model.specs.Plain.{plain}
+use Rattle.replay_tool.specs.declared.status.Status.{Status}
+use Rattle.replay_tool.specs.Replays.{Replay, ReplayEnds, RanOut, moment, replay_between, the_report}
+use Rattle.replay_tool.specs.Served.{both}
+use Rattle.replay_tool.specs.Streams.{stream}
+use Rattle.replay_tool.proofs.Ends.{ends_whole, ends_halted, gives_back}
+use Rattle.replay_tool.proofs.ServedLaws.{none_out, served_none, served_nearly}
 use Rattle.replay_tool.proofs.command.replay.Goals as goal
-use Rattle.replay_tool.proofs.command.replay.Goals.{in-Ok-write_report, in-Err-WriteFault, in-Err-OutOfMemory}
+use Rattle.replay_tool.proofs.command.replay.Goals.{in-Ok-write_report, in-Err}
 
 pub returns-clause-back : goal.returns-clause-back
 returns-clause-back g c =
@@ -31,29 +31,54 @@ returns-clause-back g c =
           (ap (λ (s : SourceView ℕ). s.out) c.shape-2.ensures ∙ c.requires.none_out.raw);
     }
 
-pub returns-clause-ending : goal.returns-clause-ending
-returns-clause-ending g c =
+pub returns-clause-ends : goal.returns-clause-ends
+returns-clause-ends g c =
     let m = c.write_report.new.machine in
+    let before = stream (g.O.Sink.written c.args.out.now) (g.O.Sink.faults c.args.out.now) in
+    let now = stream (g.O.Sink.written c.write_report.new.out) (g.O.Sink.faults c.write_report.new.out) in
     let first = both (g.A.ArenaSource.seen c.shape.new.self) (g.R.RawSource.seen c.shape-2.new.self) in
     let mid = both (g.A.ArenaSource.seen c.write_report.new.arenas) (g.R.RawSource.seen c.write_report.new.raws) in
     let last = both (g.A.ArenaSource.seen c.end.new.arenas) (g.R.RawSource.seen c.end.new.raws) in
-    let asked = shaped (both (g.A.ArenaSource.seen c.args.arenas.now) (g.R.RawSource.seen c.args.raw.now)) in
-    let before = g.O.Sink.written c.args.out.now in
-    let now = g.O.Sink.written c.write_report.new.out in
-    let faults = g.O.Sink.faults c.args.out.now in
-    let faults_then = g.O.Sink.faults c.write_report.new.out in
     let status = c.match-write_report.status in
-    let as_asked : first ≡ asked = λ i. both (c.shape.ensures i) (c.shape-2.ensures i) in
-    let ended : Ending (tracks_of m) m.entries before now faults faults_then status first last = elim c.match-write_report.branch [
-      | in-Ok-write_report w ↦
-          whole (w.status-is ∙ w.status_of-status.ensures) (at_ok c.write_report.result _ _ w.in-Ok-write_report.is c.write_report.ensures.whole)
-          (served_ended (tracks_of m) m.entries m.arenas m.raws first mid last (at_ok c.write_report.result _ _ w.in-Ok-write_report.is c.write_report.ensures.served) c.end.ensures.nothing c.end.ensures.arenas c.end.ensures.raws)
-      | in-Err-WriteFault w ↦
-          cut w.status-is (c.write_report.ensures.cause (w.in-Err-WriteFault.is ∙ ap (λ (h : Halt). Err h) w.in-Err-WriteFault.field-0-is)) (c.write_report.ensures.cut (w.in-Err-WriteFault.is ∙ ap (λ (h : Halt). Err h) w.in-Err-WriteFault.field-0-is))
-          (served_ended (tracks_of m) m.entries m.arenas m.raws first mid last (c.write_report.ensures.served_cut (w.in-Err-WriteFault.is ∙ ap (λ (h : Halt). Err h) w.in-Err-WriteFault.field-0-is)) c.end.ensures.nothing c.end.ensures.arenas c.end.ensures.raws)
-      | in-Err-OutOfMemory w ↦
-          ran_out w.status-is (c.write_report.ensures.memory (w.in-Err-OutOfMemory.is ∙ ap (λ (h : Halt). Err h) w.in-Err-OutOfMemory.field-0-is))
-          (nearly_ended (tracks_of m) m.entries m.arenas m.raws first mid last (c.write_report.ensures.nearly (w.in-Err-OutOfMemory.is ∙ ap (λ (h : Halt). Err h) w.in-Err-OutOfMemory.field-0-is)) c.end.ensures.nothing c.end.ensures.arenas c.end.ensures.raws)
+    let ran : Replay = replay_between (moment c.in-Ok.machine before first) (moment m now mid) in
+    let ended : ReplayEnds ran status = elim c.match-write_report.branch [
+      | in-Ok-write_report w ↦ ends_whole ran c.write_report.result _ status c.write_report.ensures.ends w.in-Ok-write_report.is (w.status-is ∙ w.status_of-status.ensures)
+      | in-Err w ↦ ends_halted ran c.write_report.result w.in-Err.halt status c.write_report.ensures.ends w.in-Err.is (w.status-is ∙ w.status-status.ensures)
     ] in
-    at_end (λ (t : List PlainTrack) (es : List Entry). Ending t es before now faults faults_then status asked last) m c.args.trace c.end.result.entries (c.write_report.ensures.trace ∙ c.in-Ok.ensures.trace) c.end.ensures.history
-    (subst (λ (s : Sources). Ending (tracks_of m) m.entries before now faults faults_then status s last) as_asked ended)
+    let trace_is = c.write_report.ensures.trace ∙ c.in-Ok.ensures.trace in
+    subst (λ (r : Replay). ReplayEnds r status) (λ i. record {
+      tracks = (plain (trace_is i)).tracks;
+      entries = sym c.end.ensures.history i;
+      out = before;
+      out_then = now;
+      sources = both (c.shape.ensures i) (c.shape-2.ensures i);
+      sources_then = last;
+    }) (gives_back ran last m.arenas m.raws c.end.ensures.nothing c.end.ensures.arenas c.end.ensures.raws status ended)
+
+-- there was no memory for a machine, so no event was done
+pub returns-in_default-clause-ends : goal.returns-in_default-clause-ends
+returns-in_default-clause-ends g c =
+    let tracks = (plain c.args.trace).tracks in
+    let before = stream (g.O.Sink.written c.args.out.now) (g.O.Sink.faults c.args.out.now) in
+    let first = both (g.A.ArenaSource.seen c.shape.new.self) (g.R.RawSource.seen c.shape-2.new.self) in
+    let none : Replay = record { tracks = tracks; entries = []; out = before; out_then = before; sources = first; sources_then = first } in
+    let ran : RanOut the_report none = record {
+      legal = tt;
+      earlier = [];
+      later = [];
+      all = refl;
+      few = omega arith;
+      written = record { bytes = Appends-nil before.bytes; calm = refl };
+      served = served_nearly tracks [] first first (served_none tracks first);
+    } in
+    subst (λ (p : Replay × Status). ReplayEnds p.0 p.1) (λ i. (
+      record {
+        tracks = tracks;
+        entries = sym c.without_events.ensures.none i;
+        out = before;
+        out_then = before;
+        sources = both (c.shape.ensures i) (c.shape-2.ensures i);
+        sources_then = first;
+      },
+      sym c.without_events.ensures.status i,
+    )) ran

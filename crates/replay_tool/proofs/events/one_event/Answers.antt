@@ -1,23 +1,30 @@
-use Rattle.std.proofs.Common.{◌∙◌, subst}
-use Rattle.std.specs.Io.KnownBytes.{Appends}
-use Rattle.std.proofs.lemmas.Result.{on_ok_weaker}
-use Rattle.streams.specs.Moves.{WroteFront}
-use Rattle.replay_tool.proofs.Kept.{at_err}
+use Rattle.std.proofs.Common.{length, ap, ◌∙◌}
+use Rattle.replay_tool.specs.declared.status.Halt.TheVariants.{WriteFault}
+use Rattle.replay_tool.proofs.Kept.{buffer_is}
+use Rattle.replay_tool.proofs.Texts.{halt_is, wrote_is, broke_is}
 use Rattle.replay_tool.proofs.events.one_event.Goals as goal
 
-pub returns-in-Ok-clause-wrote : goal.returns-in-Ok-clause-wrote
-returns-in-Ok-clause-wrote g c =
-    let did = c.in-Ok.ensures.did in
-    on_ok_weaker c.write_text.result (λ whole. record {
-      more = did.more;
-      text = subst (Appends (g.O.Sink.written c.args.out.now) (g.O.Sink.written c.write_text.new.out)) (c.as_slice.ensures.value ∙ did.text_is) whole;
-    }) c.write_text.ensures.whole
+pub returns-in_err-write_all-clause-ends : goal.returns-in_err-write_all-clause-ends
+returns-in_err-write_all-clause-ends g c =
+    let old = c.args.machine.now in
+    let new = c.step.new.self in
+    let step = c.in_ok-step.step in
+    let did = c.in_ok-step.ensures in
+    rw (halt_is c.from_residual-in_err-write_all.result WriteFault c.from_residual-in_err-write_all.ensures.1)
+    (record {
+      more = record { entry = step.entry; next = did.step.next; same = did.trace; grows = did.step.grows; arenas = did.asks_arena; raws = did.asks_raw };
+      front = broke_is _ _ _ _ _ _ (c.as_slice.ensures.value ∙ buffer_is c.args.t old new step _ _ _ _ did.step (c.trace.ensures.trace ∙ did.trace) (c.len-number.ensures ∙ ap length c.history.ensures.entries) c.clear.ensures.items c.in_ok-push_event.ensures)
+          c.in_err-write_all.ensures.part c.in_err-write_all.ensures.counted;
+    })
 
-pub returns-in-Ok-clause-cut : goal.returns-in-Ok-clause-cut
-returns-in-Ok-clause-cut g c = λ is.
-    let did = c.in-Ok.ensures.did in
+pub returns-clause-ends : goal.returns-clause-ends
+returns-clause-ends g c =
+    let old = c.args.machine.now in
+    let new = c.step.new.self in
+    let step = c.in_ok-step.step in
+    let did = c.in_ok-step.ensures in
     record {
-      more = did.more;
-      front = subst (WroteFront (g.O.Sink.written c.args.out.now) (g.O.Sink.written c.write_text.new.out)) (c.as_slice.ensures.value ∙ did.text_is)
-          (at_err c.write_text.result _ _ is c.write_text.ensures.part);
+      more = record { entry = step.entry; next = did.step.next; same = did.trace; grows = did.step.grows; arenas = did.asks_arena; raws = did.asks_raw };
+      text = wrote_is _ _ _ _ _ _ (c.as_slice.ensures.value ∙ buffer_is c.args.t old new step _ _ _ _ did.step (c.trace.ensures.trace ∙ did.trace) (c.len-number.ensures ∙ ap length c.history.ensures.entries) c.clear.ensures.items c.in_ok-push_event.ensures)
+          c.in_ok-write_all.ensures.whole c.in_ok-write_all.ensures.counted;
     }

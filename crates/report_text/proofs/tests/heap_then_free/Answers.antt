@@ -1,7 +1,7 @@
 use Rattle.std.proofs.Common.{◌≡◌, ℕ, zero, suc, ◌<◌, ◌≤◌, List, [], ◌∷◌, ◌++◌, length, sym, ap, subst, ◌∙◌, arith, slice_get, Some}
 use Rattle.std.specs.Prelude.{codes}
 use Rattle.std.proofs.lemmas.Option.{slice_get_within}
-use Rattle.mem_base.specs.Texts.{unknown, interned}
+use Rattle.mem_base.specs.Texts.{unknown, with_text}
 use Rattle.mem_base.specs.declared.texts.TextId.{TextId}
 use Rattle.mem_base.specs.declared.trace.Letter.TheVariants.{Mem}
 use Rattle.mem_base.specs.declared.trace.Op.{Op}
@@ -37,8 +37,8 @@ known trace name x is of_name of_x = record {
 pub returns-clause-known : goal.returns-clause-known
 returns-clause-known c =
     let texts = c.in_ok-texts.ensures in
-    let first : c.intern.new.self ≡ interned (unknown ∷ []) (codes "t") = c.in_ok-t.ensures.table ∙ ap (λ ts. interned ts (codes "t")) texts in
-    let both : c.intern-2.new.self ≡ interned (interned (unknown ∷ []) (codes "t")) (codes "x") = c.in_ok-x.ensures.table ∙ ap (λ ts. interned ts (codes "x")) first in
+    let first : c.intern.new.self ≡ with_text (unknown ∷ []) (codes "t") = c.in_ok-t.ensures.table ∙ ap (λ ts. with_text ts (codes "t")) texts in
+    let both : c.intern-2.new.self ≡ with_text (with_text (unknown ∷ []) (codes "t")) (codes "x") = c.in_ok-x.ensures.table ∙ ap (λ ts. with_text ts (codes "x")) first in
     let two : length c.intern.new.self ≡ 2 = ap length first in
     let three : length c.intern-2.new.self ≡ 3 = ap length both in
     let t = c.in_ok-t.t in

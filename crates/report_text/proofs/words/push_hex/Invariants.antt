@@ -1,5 +1,5 @@
 use Rattle.std.proofs.Common.{◌≡◌, ◌++◌, drop}
-use Rattle.trace_model.specs.Spelling.{hex_word}
+use Rattle.trace_model.specs.Operands.{hex_word}
 use Rattle.report_text.proofs.words.push_hex.Given as goal
 
 -- what was added, and the digits of the bytes left, are those of all

@@ -4,12 +4,12 @@ use Rattle.std.specs.List.{slice_split}
 use Rattle.trace_model.specs.Plain.{PlainTrace, plain}
 use Rattle.trace_model.specs.Spelling.{line_end}
 use Rattle.trace_model.specs.declared.cause.TraceCause.TheVariants.{BadHeader}
-use Rattle.trace_model.specs.Reading.{trace_at, lines_at, header_at, opening, Place}
-use Rattle.trace_model.proofs.LineSteps.{with_header}
+use Rattle.trace_model.specs.Reading.{trace_at, lines_at, header_at, opening, Stop}
+use Rattle.trace_model.proofs.CallerLemmas.{with_header}
 use Rattle.trace_reader.specs.Answers.{Reads}
 use Rattle.trace_reader.proofs.lines.read.Goals as goal
 
-abbrev either : List ℕ → Bool → Result PlainTrace Place
+abbrev either : List ℕ → Bool → Result PlainTrace Stop
 either rest b = cond b (lines_at 2 opening (slice_split (λ b. b == line_end) rest)) (Err (1, BadHeader))
 
 pub returns-then-is_header-clause-read : goal.returns-then-is_header-clause-read
@@ -26,4 +26,4 @@ returns-else-is_header-clause-read c =
 
 pub returns-in-None-clause-read : goal.returns-in-None-clause-read
 unfolding trace_at
-returns-in-None-clause-read c = ap header_at c.in-None.ensures ∙ ap (λ e. Err (1, e)) (sym c.unended.ensures)
+returns-in-None-clause-read c = ap header_at c.in-None.ensures ∙ ap (λ e. Err (1, e)) (sym c.end_cause.ensures)

@@ -1,5 +1,5 @@
 use Rattle.std.proofs.Common.{◌≡◌, drop}
-use Rattle.trace_model.specs.Reading.{digits_from}
+use Rattle.trace_model.specs.Operands.{digits_from}
 use Rattle.trace_reader.proofs.operands.digits.Given as goal
 
 abbrev pub invariant-loop-byte : goal.invariant-loop-byte

@@ -1,5 +1,5 @@
 use Rattle.std.proofs.Common.{sym, ◌∙◌}
-use Rattle.trace_model.specs.Reading.{hex_from}
+use Rattle.trace_model.specs.Operands.{hex_from}
 use Rattle.trace_reader.proofs.HexPairs.{pair_read}
 use Rattle.trace_reader.proofs.operands.hex_bytes.Goals as goal
 

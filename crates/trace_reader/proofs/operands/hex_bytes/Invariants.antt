@@ -1,5 +1,5 @@
 use Rattle.std.proofs.Common.{◌≡◌, length}
-use Rattle.trace_model.specs.Reading.{hex_from}
+use Rattle.trace_model.specs.Operands.{hex_from}
 use Rattle.trace_reader.proofs.HexPairs.{with_front}
 use Rattle.trace_reader.proofs.operands.hex_bytes.Given as goal
 

@@ -1,59 +1,48 @@
-use Rattle.std.proofs.Common.{refl, sym, subst}
-use Rattle.sources.proofs.Holders.{traded_nothing}
+use Rattle.std.proofs.Common.{sym, subst}
 use Rattle.py_heap.specs.Heap.{HeapView}
-use Rattle.domain_api.specs.Held.{AllWithin, AreHeld, AreTraded, DomainsView}
-use Rattle.domain_api.proofs.DomainLemmas.{held_heap, regions_within}
+use Rattle.domain_api.specs.Held.{AllWithin}
+use Rattle.domain_api.proofs.DomainLemmas.{heap_had_none, own_held, raw_had_none, regions_within, small_held, small_traded}
 use Rattle.domain_api.proofs.domains.Domains.take_pooled.Goals as goal
 
 pub alloc-requires-clause-held : goal.alloc-requires-clause-held
-alloc-requires-clause-held g c =
-    let arenas = g.A.ArenaSource.seen c.args.arenas.now in
+alloc-requires-clause-held g c = (own_held c.self.inside.heap c.self.inside.raw c.args.self.now c.self.view_is _ _ c.requires.held).arenas_out
+
+pub returns-in_err-piece-clause-once : goal.returns-in_err-piece-clause-once
+returns-in_err-piece-clause-once g c =
     let raws = g.R.RawSource.seen c.args.raws.now in
-    (subst (λ (d : DomainsView). AreHeld d arenas raws) (sym c.self.view_is) c.requires.held).arenas_out
+    heap_had_none (g.A.ArenaSource.seen c.args.arenas.now) (g.A.ArenaSource.seen c.alloc.new.arenas) raws _ c.in_err-piece.ensures.once
+
+pub returns-in-None-clause-once : goal.returns-in-None-clause-once
+returns-in-None-clause-once g c =
+    let got = c.in_ok-piece.ensures in let raw = c.take_raw.ensures in
+    raw_had_none (g.A.ArenaSource.seen c.args.arenas.now) (g.A.ArenaSource.seen c.take_raw.new.arenas) (g.R.RawSource.seen c.args.raws.now) c.in_ok-piece.field-0.grant (g.A.ArenaSource.seen c.alloc.new.arenas)
+    (g.R.RawSource.seen c.take_raw.new.raws) c.take_raw.result got.answered got.plan raw.arenas raw.unrefused raw.once
 
 pub returns-in_err-piece-clause-traded : goal.returns-in_err-piece-clause-traded
 returns-in_err-piece-clause-traded g c =
-    let arenas = g.A.ArenaSource.seen c.args.arenas.now in
-    let then = g.A.ArenaSource.seen c.alloc.new.arenas in
-    let raws = g.R.RawSource.seen c.args.raws.now in
-    let new : DomainsView = record { heap = c.alloc.new.self; raws = c.self.inside.raw } in
-    let held = subst (λ (d : DomainsView). AreHeld d arenas raws) (sym c.self.view_is) c.requires.held in
-    subst (λ (d : DomainsView). AreTraded d new arenas then raws raws) c.self.view_is
-    (record { arena = c.in_err-piece.ensures.traded; raw = traded_nothing c.self.inside.raw c.self.inside.raw raws raws held.raws_out refl refl refl refl })
+    small_traded c.self.inside.heap c.self.inside.raw c.args.self.now c.self.view_is _ _ c.requires.held c.alloc.new.self _ c.in_err-piece.ensures.traded
 
 pub returns-in_err-piece-clause-held : goal.returns-in_err-piece-clause-held
 returns-in_err-piece-clause-held g c =
-    let arenas = g.A.ArenaSource.seen c.args.arenas.now in
-    let then = g.A.ArenaSource.seen c.alloc.new.arenas in
-    let raws = g.R.RawSource.seen c.args.raws.now in
-    let held = subst (λ (d : DomainsView). AreHeld d arenas raws) (sym c.self.view_is) c.requires.held in
-    held_heap c.self.inside.heap c.alloc.new.self c.self.inside.raw arenas then raws held c.in_err-piece.ensures.traded
+    let arenas = g.A.ArenaSource.seen c.args.arenas.now in let h = c.self.inside.heap in let rs = c.self.inside.raw in
+    let held = own_held h rs c.args.self.now c.self.view_is arenas (g.R.RawSource.seen c.args.raws.now) c.requires.held in
+    small_held h rs c.args.self.now c.self.view_is arenas _ c.requires.held c.alloc.new.self _ c.in_err-piece.ensures.traded
     (subst (λ (h : HeapView). AllWithin h.regions arenas.window) (sym c.in_err-piece.ensures.failed) held.arenas_in)
 
 pub take_raw-requires-clause-held : goal.take_raw-requires-clause-held
 take_raw-requires-clause-held g c =
-    let arenas = g.A.ArenaSource.seen c.args.arenas.now in
-    let then = g.A.ArenaSource.seen c.alloc.new.arenas in
-    let raws = g.R.RawSource.seen c.args.raws.now in
-    let held = subst (λ (d : DomainsView). AreHeld d arenas raws) (sym c.self.view_is) c.requires.held in
-    held_heap c.self.inside.heap c.alloc.new.self c.self.inside.raw arenas then raws held c.in_ok-piece.ensures.traded
-    (regions_within c.in_ok-piece.field-0.grant arenas c.self.inside.heap.regions c.alloc.new.self.regions c.in_ok-piece.ensures.regions held.arenas_in)
+    let arenas = g.A.ArenaSource.seen c.args.arenas.now in let h = c.self.inside.heap in let rs = c.self.inside.raw in
+    let held = own_held h rs c.args.self.now c.self.view_is arenas (g.R.RawSource.seen c.args.raws.now) c.requires.held in
+    small_held h rs c.args.self.now c.self.view_is arenas _ c.requires.held c.alloc.new.self _ c.in_ok-piece.ensures.traded
+    (regions_within c.in_ok-piece.field-0.grant arenas h.regions c.alloc.new.self.regions c.in_ok-piece.ensures.regions held.arenas_in)
 
 pub returns-in-Some-clause-traded : goal.returns-in-Some-clause-traded
 returns-in-Some-clause-traded g c =
-    let arenas = g.A.ArenaSource.seen c.args.arenas.now in
-    let then = g.A.ArenaSource.seen c.alloc.new.arenas in
-    let raws = g.R.RawSource.seen c.args.raws.now in
-    let new : DomainsView = record { heap = c.alloc.new.self; raws = c.self.inside.raw } in
-    let held = subst (λ (d : DomainsView). AreHeld d arenas raws) (sym c.self.view_is) c.requires.held in
-    subst (λ (d : DomainsView). AreTraded d new arenas then raws raws) c.self.view_is
-    (record { arena = c.in_ok-piece.ensures.traded; raw = traded_nothing c.self.inside.raw c.self.inside.raw raws raws held.raws_out refl refl refl refl })
+    small_traded c.self.inside.heap c.self.inside.raw c.args.self.now c.self.view_is _ _ c.requires.held c.alloc.new.self _ c.in_ok-piece.ensures.traded
 
 pub returns-in-Some-clause-held : goal.returns-in-Some-clause-held
 returns-in-Some-clause-held g c =
-    let arenas = g.A.ArenaSource.seen c.args.arenas.now in
-    let then = g.A.ArenaSource.seen c.alloc.new.arenas in
-    let raws = g.R.RawSource.seen c.args.raws.now in
-    let held = subst (λ (d : DomainsView). AreHeld d arenas raws) (sym c.self.view_is) c.requires.held in
-    held_heap c.self.inside.heap c.alloc.new.self c.self.inside.raw arenas then raws held c.in_ok-piece.ensures.traded
-    (regions_within c.in_ok-piece.field-0.grant arenas c.self.inside.heap.regions c.alloc.new.self.regions c.in_ok-piece.ensures.regions held.arenas_in)
+    let arenas = g.A.ArenaSource.seen c.args.arenas.now in let h = c.self.inside.heap in let rs = c.self.inside.raw in
+    let held = own_held h rs c.args.self.now c.self.view_is arenas (g.R.RawSource.seen c.args.raws.now) c.requires.held in
+    small_held h rs c.args.self.now c.self.view_is arenas _ c.requires.held c.alloc.new.self _ c.in_ok-piece.ensures.traded
+    (regions_within c.in_ok-piece.field-0.grant arenas h.regions c.alloc.new.self.regions c.in_ok-piece.ensures.regions held.arenas_in)

@@ -1,7 +1,8 @@
-use Rattle.std.proofs.Common.{subst, ap, ◌∙◌}
+use Rattle.std.proofs.Common.{subst}
 use Rattle.std.specs.Prelude.{IfOk}
 use Rattle.std.proofs.lemmas.Result.{IfOk-weaker}
-use Rattle.machine_core.specs.Spots.{AreSpots, spots_from}
+use Rattle.block_store.specs.Spots.{AreSpots}
+use Rattle.machine_core.specs.Spots.{living_in}
 use Rattle.machine_core.specs.View.{MachineView}
 use Rattle.machine_core.proofs.SpotLemmas.{spots_are}
 use Rattle.machine_core.proofs.machine.Machine.places.Goals as goal
@@ -9,7 +10,5 @@ use Rattle.machine_core.proofs.machine.Machine.places.Goals as goal
 pub returns : goal.returns
 returns c =
     let a = c.self.inside in
-    subst (λ (m : MachineView). IfOk c.spots_of.result (AreSpots m)) c.self.view_is
-    (IfOk-weaker c.spots_of.result _ _
-    (λ spots h. spots_are a.trace a.history.entries a.store.slots.items a.store.domains a.owner a.done.items a.faulted c.self.invariant spots (h ∙ ap (spots_from 0) c.as_slice.ensures.value))
-    c.spots_of.ensures)
+    subst (λ (m : MachineView). IfOk c.spots.result (AreSpots (living_in m))) c.self.view_is
+    (IfOk-weaker c.spots.result _ _ (spots_are a.trace a.history.entries a.held a.done.items a.faulted c.self.invariant) c.spots.ensures)

@@ -3,8 +3,8 @@ use Rattle.extents.specs.Extent.{region_extent}
 use Rattle.extents.specs.Sums.{AllIn, Has, Inserted, Removed}
 use Rattle.extents.proofs.Lists.{has_kept, has_new}
 use Rattle.extents.proofs.Addresses.{meets_part}
-use Rattle.sources.specs.Holder.{Traded}
-use Rattle.sources.proofs.Holders.{traded_nothing, traded_got, traded_back}
+use Rattle.sources.specs.Holder.{AskedUnrefused, Traded}
+use Rattle.sources.proofs.CallerLemmas.{traded_nothing, traded_got, traded_back}
 use Rattle.raw_heap.specs.Kept.{blocks}
 use Rattle.raw_heap.proofs.heap.RawHeap.alloc.Goals as goal
 use Rattle.raw_heap.proofs.heap.RawHeap.alloc.Goals.{in-Ok-lend, in-Err}
@@ -55,3 +55,14 @@ pub returns-in-Err-OutOfMemory-clause-traded : goal.returns-in-Err-OutOfMemory-c
 returns-in-Err-OutOfMemory-clause-traded g c =
     let asked = c.in-Err-OutOfMemory.ensures in
     traded_nothing c.args.self.now c.args.self.now (g.R.RawSource.seen c.args.raws.now) (g.R.RawSource.seen c.ask.new.self) c.requires.held asked.window asked.shape refl asked.none
+
+pub returns-after-lend-clause-unrefused : goal.returns-after-lend-clause-unrefused
+returns-after-lend-clause-unrefused g c =
+    let old = g.R.RawSource.seen c.args.raws.now in let mid = g.R.RawSource.seen c.ask.new.self in let e = c.in-Ok.ensures in
+    elim c.match-lend.branch [
+      | in-Ok-lend w ↦ rw w.result-is tt
+      | in-Err w ↦ rw w.result-is (
+          subst (λ r. AskedUnrefused old (g.R.RawSource.seen r)) (sym w.raws-is)
+          (record { asks = 1; few = omega arith; answered = record { asked = w.give.ensures.asked ∙ e.asked; refused = w.give.ensures.refused ∙ e.refused; heeded = λ one planned. let wrong = e.planned planned in cc }; plan = w.give.ensures.plan ∙ e.plan })
+          )
+    ]

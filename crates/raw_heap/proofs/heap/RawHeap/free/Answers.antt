@@ -2,7 +2,7 @@ use Rattle.std.proofs.Common.{sym, subst}
 use Rattle.extents.specs.Extent.{piece_extent}
 use Rattle.extents.specs.Sums.{AllIn, Has, Removed}
 use Rattle.sources.specs.Holder.{Traded}
-use Rattle.sources.proofs.Holders.{traded_gave}
+use Rattle.sources.proofs.CallerLemmas.{traded_gave}
 use Rattle.raw_heap.specs.Kept.{blocks}
 use Rattle.raw_heap.proofs.Blocks.{some_bytes}
 use Rattle.raw_heap.proofs.heap.RawHeap.free.Goals as goal

@@ -1,0 +1,6 @@
+-- What proofs of other crates may cite.
+pub use Rattle.event_model.proofs.FaultLaws.{ends_in_fault}
+pub use Rattle.event_model.proofs.HistoryLaws.{state_push, legal_push}
+pub use Rattle.event_model.proofs.LeftLaws.{leaves_less, legal_short}
+pub use Rattle.event_model.proofs.PlanLaws.{planned_more, heeds_more}
+pub use Rattle.event_model.proofs.TakenLaws.{few_taken}

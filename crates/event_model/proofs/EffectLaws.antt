@@ -1,0 +1,205 @@
+-- What holds of one operation, and of an event: one more operation has one more arm here.
+use Rattle.std.proofs.Common.{◌≡◌, ◌≢◌, ℕ, true≢false, Bool, true, false, cond, List, Option, Some, None, refl, sym, ap, subst, ◌∙◌, inl, inr, ◌⊎◌}
+use Rattle.std.proofs.lemmas.Bool.Decides.{eqb_tells}
+use Rattle.mem_base.specs.Name.{Name}
+use Rattle.mem_base.specs.declared.history.Grant.{Grant}
+use Rattle.mem_base.specs.declared.history.Ask.{Ask}
+use Rattle.mem_base.specs.declared.history.Entry.{Entry}
+use Rattle.trace_model.specs.Plain.{Action, acquire, release, malloc, free, poke, peek, heap, refuse, other, PlainTrack, name_of}
+use Rattle.block_model.specs.Block.{new_byte}
+use Rattle.layout_model.specs.Asks.{FitsRequest}
+use Rattle.layout_model.specs.Asks.Request.{FromPools}
+use Rattle.layout_model.specs.Layout.{Layout}
+use Rattle.layout_model.specs.Place.{place}
+use Rattle.layout_model.specs.Sizes.{is_small, class_of}
+use Rattle.layout_model.specs.Unplace.{unplace}
+use Rattle.map_model.specs.Map.{find}
+use Rattle.map_model.proofs.CallerLemmas.{find-hold_other, find-hold_again}
+use Rattle.request_model.specs.Decision.{call_fault, decision}
+use Rattle.request_model.proofs.CallerLemmas.{decides}
+use Rattle.event_model.specs.Blocks.{Block}
+use Rattle.event_model.specs.Effects.{effect, may_do_next, request_of}
+use Rattle.event_model.specs.Events.{event, event_of, settle, advance, next_action, next_request}
+use Rattle.event_model.specs.History.{IsNext}
+use Rattle.event_model.specs.Laws.{IsNull}
+use Rattle.event_model.specs.Memory.{finding_of, malloc_turn, malloc_request}
+use Rattle.event_model.specs.Replies.{PlainReply, ok, null, held, not_held, is_fault}
+use Rattle.event_model.specs.State.{Held, State, is_owner}
+use Rattle.event_model.proofs.KeepLaws.{malloc_keeps, free_keeps, poke_keeps, peek_keeps}
+use Rattle.event_model.proofs.LayoutLaws.{Placing, malloc_holds, unless_holds, poke_holds, peek_holds}
+use Rattle.event_model.proofs.LeftLaws.{waits}
+use Rattle.event_model.proofs.NullLaws.{acquire_null, release_null, malloc_null, free_null, poke_null, peek_null, null_decided}
+
+-- ---- layouts
+
+-- a fact that holds of the layout, and wherever the request and a freed block lead, holds after the operation
+effect_holds : (P : Layout → Type 0) (h : Held) (t : ℕ) (a : Action) (arena : Grant) (raw : Ask)
+    → P h.layout → Placing P h.layout arena (request_of h t a) → ((k : ℕ) → P (unplace h.layout k)) → P (effect h t a arena raw).0.layout
+effect_holds P h t acquire arena raw here placed unplaced = here
+effect_holds P h t release arena raw here placed unplaced = here
+effect_holds P h t (malloc v name n) arena raw here placed unplaced = malloc_holds P v n new_byte (is_owner h.owner t) arena raw h.layout (find h.blocks name) here placed
+effect_holds P h t (free v name) arena raw here placed unplaced =
+    let now = find h.blocks name in
+    unless_holds P (call_fault v (is_owner h.owner t) (finding_of v now)) h.layout now here unplaced
+effect_holds P h t (poke name offset new) arena raw here placed unplaced = poke_holds P offset new h.layout (find h.blocks name) here
+effect_holds P h t (peek name offset count) arena raw here placed unplaced = peek_holds P offset count h.layout (find h.blocks name) here
+effect_holds P h t heap arena raw here placed unplaced = here
+effect_holds P h t (refuse side k) arena raw here placed unplaced = here
+effect_holds P h t other arena raw here placed unplaced = here
+
+settle_holds : (P : Layout → Type 0) (tracks : List PlainTrack) (t : ℕ) (s : State) (r : Held × PlainReply) → P s.held.layout → P r.0.layout → P (settle tracks t s r).held.layout
+settle_holds P tracks t s r here there = by (is_fault r.1)
+  where
+    by : (b : Bool) → P (cond b (record s { faulted = true }) (advance tracks t s r.0)).held.layout
+    by true = here
+    by false = there
+
+-- the same of an event
+pub event_holds : (P : Layout → Type 0) (tracks : List PlainTrack) (s : State) (e : Entry)
+    → P s.held.layout
+    → ((m : ℕ) → next_request s.held e.track (next_action tracks s e.track) ≡ FromPools m → is_small m ≡ true → P (place s.held.layout (class_of m) e.arena).layout)
+    → ((k : ℕ) → P (unplace s.held.layout k))
+    → P (event tracks s e).0.held.layout
+unfolding event
+event_holds P tracks s e here placed unplaced = by (next_action tracks s e.track) placed
+  where
+    by : (o : Option Action) → ((m : ℕ) → next_request s.held e.track o ≡ FromPools m → is_small m ≡ true → P (place s.held.layout (class_of m) e.arena).layout)
+        → P (event_of tracks s e.track e.arena e.raw o).0.held.layout
+    by None placed = here
+    by (Some a) placed = settle_holds P tracks e.track s (effect s.held e.track a e.arena e.raw) here (effect_holds P s.held e.track a e.arena e.raw here placed unplaced)
+
+-- ---- the reply of an event is that of its operation
+
+pub reply_of : (tracks : List PlainTrack) (s : State) (e : Entry) (a : Action) → next_action tracks s e.track ≡ Some a → (event tracks s e).1 ≡ (effect s.held e.track a e.arena e.raw).1
+unfolding event
+reply_of tracks s e a is = ap (λ (o : Option Action). (event_of tracks s e.track e.arena e.raw o).1) is
+
+-- ---- an event that answers null
+
+null_by : (tracks : List PlainTrack) (s : State) (e : Entry) (a : Action) → next_action tracks s e.track ≡ Some a
+    → FitsRequest s.held.layout (request_of s.held e.track a) e.arena e.raw → (effect s.held e.track a e.arena e.raw).1 ≡ null → IsNull tracks s e
+null_by tracks s e acquire is fits h = absurd (acquire_null e.track s.held.owner h)
+null_by tracks s e release is fits h = absurd (release_null e.track s.held.owner h)
+null_by tracks s e (malloc v name n) is fits h = (v, name, n, is, malloc_null s.held e v name n new_byte (find s.held.blocks name) refl fits h)
+null_by tracks s e (free v name) is fits h =
+    let now = find s.held.blocks name in
+    absurd (free_null (call_fault v (is_owner s.held.owner e.track) (finding_of v now)) s.held.layout now h)
+null_by tracks s e (poke name offset new) is fits h = absurd (poke_null offset new s.held.layout (find s.held.blocks name) h)
+null_by tracks s e (peek name offset count) is fits h = absurd (peek_null offset count s.held.layout (find s.held.blocks name) h)
+null_by tracks s e heap is fits h = absurd cc
+null_by tracks s e (refuse side k) is fits h = absurd cc
+null_by tracks s e other is fits h = absurd cc
+
+-- the answers of an event that may come next fit what its operation asks for
+fits_action : (tracks : List PlainTrack) (s : State) (e : Entry) (a : Action) → IsNext tracks s e → next_action tracks s e.track ≡ Some a → FitsRequest s.held.layout (request_of s.held e.track a) e.arena e.raw
+fits_action tracks s e a next is = subst (λ (o : Option Action). FitsRequest s.held.layout (next_request s.held e.track o) e.arena e.raw) is next.fits
+
+pub null_for : (tracks : List PlainTrack) (s : State) (e : Entry) → IsNext tracks s e → (event tracks s e).1 ≡ null → IsNull tracks s e
+null_for tracks s e next h =
+    let w = waits s.held.owner e.track (next_action tracks s e.track) next.ready in
+    null_by tracks s e w.0 w.1 (fits_action tracks s e w.0 next w.1) (sym (reply_of tracks s e w.0 w.1) ∙ h)
+
+pub null_where : (tracks : List PlainTrack) (s : State) (e : Entry) → IsNext tracks s e → IsNull tracks s e → (event tracks s e).1 ≡ null
+null_where tracks s e next is =
+    let v = is.0 in
+    let name = is.1 in
+    let n = is.2 in
+    let l = s.held.layout in
+    let locked = is_owner s.held.owner e.track in
+    let there = is.4.free in
+    let fits = fits_action tracks s e (malloc v name n) next is.3 in
+    let fits_free = subst (λ (o : Option Block). FitsRequest l (malloc_request v n locked o) e.arena e.raw) there fits in
+    reply_of tracks s e (malloc v name n) is.3
+    ∙ ap (λ (o : Option Block). (malloc_turn v n new_byte locked e.arena e.raw l o).answer) there
+    ∙ null_decided v n new_byte locked e.arena e.raw l (decision v n locked None) (decides v n locked None) fits_free is.4.why
+
+-- ---- the lock
+
+-- the owner after an operation is its track, or owned the lock before
+pub owner_after : (h : Held) (t : ℕ) (a : Action) (arena : Grant) (raw : Ask) (u : ℕ) → (effect h t a arena raw).0.owner ≡ Some u → (u ≡ t) ⊎ (h.owner ≡ Some u)
+owner_after h t acquire arena raw u own = by (is_owner h.owner t) own
+  where
+    by : (b : Bool) → (cond {A = Option ℕ × PlainReply} b (h.owner, held) (Some t, ok)).0 ≡ Some u → (u ≡ t) ⊎ (h.owner ≡ Some u)
+    by true own = inr own
+    by false own = inl cc
+owner_after h t release arena raw u own = by (is_owner h.owner t) own
+  where
+    by : (b : Bool) → (cond {A = Option ℕ × PlainReply} b (None, ok) (h.owner, not_held)).0 ≡ Some u → (u ≡ t) ⊎ (h.owner ≡ Some u)
+    by true own = absurd cc
+    by false own = inr own
+owner_after h t (malloc v name n) arena raw u own = inr own
+owner_after h t (free v name) arena raw u own = inr own
+owner_after h t (poke name offset new) arena raw u own = inr own
+owner_after h t (peek name offset count) arena raw u own = inr own
+owner_after h t heap arena raw u own = inr own
+owner_after h t (refuse side k) arena raw u own = inr own
+owner_after h t other arena raw u own = inr own
+
+-- the owner of the lock waits for nothing
+pub owner_may_do : (t : ℕ) (a : Action) → may_do_next (Some t) t a ≡ true
+owner_may_do t acquire = elim (eqb_tells t t) [ inl hit ↦ hit.0 | inr miss ↦ absurd (miss.1 refl) ]
+owner_may_do t release = refl
+owner_may_do t (malloc v name n) = refl
+owner_may_do t (free v name) = refl
+owner_may_do t (poke name offset new) = refl
+owner_may_do t (peek name offset count) = refl
+owner_may_do t heap = refl
+owner_may_do t (refuse side k) = refl
+owner_may_do t other = refl
+
+-- where the lock is free, no track waits
+pub may_do_free : (t : ℕ) (a : Action) → may_do_next None t a ≡ true
+may_do_free t acquire = refl
+may_do_free t release = refl
+may_do_free t (malloc v name n) = refl
+may_do_free t (free v name) = refl
+may_do_free t (poke name offset new) = refl
+may_do_free t (peek name offset count) = refl
+may_do_free t heap = refl
+may_do_free t (refuse side k) = refl
+may_do_free t other = refl
+
+-- a track that waits, waits to acquire the lock
+pub waits_for_lock : (owner : Option ℕ) (t : ℕ) (a : Action) → may_do_next owner t a ≡ false → (a ≡ acquire) × (u : ℕ) × (owner ≡ Some u) × (u ≢ t)
+waits_for_lock None t acquire waits = absurd (true≢false waits)
+waits_for_lock (Some u) t acquire waits = elim (eqb_tells u t) [ inl hit ↦ absurd (true≢false (sym hit.0 ∙ waits)) | inr miss ↦ (refl, u, refl, miss.1) ]
+waits_for_lock owner t release waits = absurd (true≢false waits)
+waits_for_lock owner t (malloc v name n) waits = absurd (true≢false waits)
+waits_for_lock owner t (free v name) waits = absurd (true≢false waits)
+waits_for_lock owner t (poke name offset new) waits = absurd (true≢false waits)
+waits_for_lock owner t (peek name offset count) waits = absurd (true≢false waits)
+waits_for_lock owner t heap waits = absurd (true≢false waits)
+waits_for_lock owner t (refuse side k) waits = absurd (true≢false waits)
+waits_for_lock owner t other waits = absurd (true≢false waits)
+
+-- ---- names
+
+differs : (name mine : Name) → Some mine ≢ Some name → name ≢ mine
+differs name mine ne = λ same. ne (λ i. Some (sym same i))
+
+-- an operation leaves the blocks of all names but the one that it works on
+pub effect_keeps_others : (h : Held) (t : ℕ) (a : Action) (arena : Grant) (raw : Ask) (name : Name) → name_of a ≢ Some name → find (effect h t a arena raw).0.blocks name ≡ find h.blocks name
+effect_keeps_others h t acquire arena raw name ne = refl
+effect_keeps_others h t release arena raw name ne = refl
+effect_keeps_others h t (malloc v mine n) arena raw name ne = find-hold_other h.blocks mine name _ (differs name mine ne)
+effect_keeps_others h t (free v mine) arena raw name ne = find-hold_other h.blocks mine name _ (differs name mine ne)
+effect_keeps_others h t (poke mine offset new) arena raw name ne = find-hold_other h.blocks mine name _ (differs name mine ne)
+effect_keeps_others h t (peek mine offset count) arena raw name ne = find-hold_other h.blocks mine name _ (differs name mine ne)
+effect_keeps_others h t heap arena raw name ne = refl
+effect_keeps_others h t (refuse side k) arena raw name ne = refl
+effect_keeps_others h t other arena raw name ne = refl
+
+-- an operation that answers anything but ok leaves what each name holds
+pub effect_keeps_unless_ok : (h : Held) (t : ℕ) (a : Action) (arena : Grant) (raw : Ask) (name : Name) → (effect h t a arena raw).1 ≢ ok → find (effect h t a arena raw).0.blocks name ≡ find h.blocks name
+effect_keeps_unless_ok h t acquire arena raw name ne = refl
+effect_keeps_unless_ok h t release arena raw name ne = refl
+effect_keeps_unless_ok h t (malloc v mine n) arena raw name ne =
+    find-hold_again h.blocks mine name _ (malloc_keeps v n new_byte (is_owner h.owner t) arena raw h.layout (find h.blocks mine) ne)
+effect_keeps_unless_ok h t (free v mine) arena raw name ne =
+    let now = find h.blocks mine in
+    find-hold_again h.blocks mine name _ (free_keeps (call_fault v (is_owner h.owner t) (finding_of v now)) h.layout now ne)
+effect_keeps_unless_ok h t (poke mine offset new) arena raw name ne = find-hold_again h.blocks mine name _ (poke_keeps offset new h.layout (find h.blocks mine) ne)
+effect_keeps_unless_ok h t (peek mine offset count) arena raw name ne = find-hold_again h.blocks mine name _ (peek_keeps offset count h.layout (find h.blocks mine))
+effect_keeps_unless_ok h t heap arena raw name ne = refl
+effect_keeps_unless_ok h t (refuse side k) arena raw name ne = refl
+effect_keeps_unless_ok h t other arena raw name ne = refl

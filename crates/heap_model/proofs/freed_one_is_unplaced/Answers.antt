@@ -1,0 +1,5 @@
+use Rattle.heap_model.proofs.Unplaced.{freed_one_is_unplaced}
+use Rattle.heap_model.proofs.freed_one_is_unplaced.Goals as goal
+
+pub returns : goal.returns
+returns c = freed_one_is_unplaced

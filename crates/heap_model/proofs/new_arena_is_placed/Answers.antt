@@ -1,0 +1,5 @@
+use Rattle.heap_model.proofs.Placed.{new_arena_is_placed}
+use Rattle.heap_model.proofs.new_arena_is_placed.Goals as goal
+
+pub returns : goal.returns
+returns c = new_arena_is_placed

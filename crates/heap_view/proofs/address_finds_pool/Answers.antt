@@ -1,5 +1,0 @@
-use Rattle.heap_view.proofs.Ground.{address_finds_pool}
-use Rattle.heap_view.proofs.address_finds_pool.Goals as goal
-
-pub returns : goal.returns
-returns c = address_finds_pool

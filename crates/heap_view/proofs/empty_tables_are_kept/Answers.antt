@@ -1,5 +1,0 @@
-use Rattle.heap_view.proofs.Empty.{empty_tables_are_kept}
-use Rattle.heap_view.proofs.empty_tables_are_kept.Goals as goal
-
-pub returns-clause-kept : goal.returns-clause-kept
-returns-clause-kept c = empty_tables_are_kept

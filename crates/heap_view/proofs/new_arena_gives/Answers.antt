@@ -1,5 +1,0 @@
-use Rattle.heap_view.proofs.Counts.{new_arena_gives}
-use Rattle.heap_view.proofs.new_arena_gives.Goals as goal
-
-pub returns : goal.returns
-returns c = new_arena_gives

@@ -1,5 +1,0 @@
-use Rattle.heap_view.proofs.Placed.{new_pool_is_placed}
-use Rattle.heap_view.proofs.new_pool_is_placed.Goals as goal
-
-pub returns : goal.returns
-returns c = new_pool_is_placed

@@ -1,5 +1,0 @@
-use Rattle.heap_view.proofs.Placed.{one_more_is_placed}
-use Rattle.heap_view.proofs.one_more_is_placed.Goals as goal
-
-pub returns : goal.returns
-returns c = one_more_is_placed

@@ -1,5 +1,0 @@
-use Rattle.heap_view.proofs.Counts.{started_and_lent}
-use Rattle.heap_view.proofs.started_and_lent.Goals as goal
-
-pub returns : goal.returns
-returns c = started_and_lent

@@ -1,0 +1,33 @@
+use Rattle.std.proofs.Common.{◌≡◌, ◌∙◌, Option, true, sym, ap, subst}
+use Rattle.std.specs.Prelude.{IfNone, IfOk, is_some}
+use Rattle.mem_base.specs.declared.reply.Reply.{Reply}
+use Rattle.mem_base.specs.declared.trace.Side.TheVariants as sides
+use Rattle.request_model.specs.Counts.{arena_asks, arena_refusals, raw_asks, raw_refusals}
+use Rattle.block_store.specs.declared.answer.Answer.{Answer}
+use Rattle.machine_core.specs.Acts.{Acts, Asks, is_quiet}
+use Rattle.machine_core.specs.declared.held.Held.{Held as Holding}
+use Rattle.machine_core.proofs.ActLemmas.{quiet_asks}
+use Rattle.machine_core.proofs.held.Held.act.Goals as goal
+
+pub returns-in-Some-clause-asks_arena : goal.returns-in-Some-clause-asks_arena
+returns-in-Some-clause-asks_arena g c =
+    let old = c.args.self.now.store.arenas in
+    let new = c.quiet.new.self.store.arenas in
+    let seen = g.A.ArenaSource.seen c.args.arenas.now in
+    let quiet : is_quiet c.args.op.now ≡ true = sym c.in_ok-reply.ensures.done ∙ ap (λ (o : Option Reply). is_some o) c.in-Some.is in
+    subst (λ (a : Answer). Asks c.args.op.now sides.Arena (arena_asks a.asked.arena) (arena_refusals a.asked.arena) old new seen seen) (sym c.unasked.ensures)
+    (quiet_asks c.args.op.now sides.Arena old new seen quiet c.requires.held.arenas_out c.quiet.ensures.same.arenas)
+
+pub returns-in-Some-clause-asks_raw : goal.returns-in-Some-clause-asks_raw
+returns-in-Some-clause-asks_raw g c =
+    let old = c.args.self.now.store.raws in
+    let new = c.quiet.new.self.store.raws in
+    let seen = g.R.RawSource.seen c.args.raws.now in
+    let quiet : is_quiet c.args.op.now ≡ true = sym c.in_ok-reply.ensures.done ∙ ap (λ (o : Option Reply). is_some o) c.in-Some.is in
+    subst (λ (a : Answer). Asks c.args.op.now sides.Raw (raw_asks a.asked.raw) (raw_refusals a.asked.raw) old new seen seen) (sym c.unasked.ensures)
+    (quiet_asks c.args.op.now sides.Raw old new seen quiet c.requires.held.raws_out c.quiet.ensures.same.raws)
+
+pub returns-in-None-clause-acts : goal.returns-in-None-clause-acts
+returns-in-None-clause-acts g c =
+    let same : c.quiet.new.self ≡ c.args.self.now = subst (λ (o : Option Reply). IfNone o (c.quiet.new.self ≡ c.args.self.now)) c.in-None.is c.in_ok-reply.ensures.others in
+    subst (λ (old : Holding). IfOk c.asking.result (λ a. Acts c.args.t c.args.op.now old c.asking.new.self a.asked a.reply)) same c.asking.ensures.acts

@@ -1,0 +1,54 @@
+use Rattle.std.proofs.Common.{◌<◌, length, refl, sym, subst}
+use Rattle.mem_base.specs.declared.trace.Side.TheVariants as sides
+use Rattle.request_model.specs.Counts.{arena_asks, arena_refusals, raw_asks, raw_refusals}
+use Rattle.trace_model.specs.Plain.{IsKnownAmong}
+use Rattle.block_store.specs.declared.answer.Answer.{Answer}
+use Rattle.machine_core.specs.Acts.{Acts, Asks}
+use Rattle.machine_core.specs.declared.held.Held.{Held as Holding}
+use Rattle.machine_core.proofs.ActLemmas.{held_told, nothing_fails, nothing_fails_unrefused, on_err, told_asks}
+use Rattle.machine_core.proofs.HeldLemmas.{free_acts, malloc_does}
+use Rattle.machine_core.proofs.held.Held.asking.Goals as goal
+
+pub returns-in-Malloc-clause-acts : goal.returns-in-Malloc-clause-acts
+returns-in-Malloc-clause-acts g c =
+    let old = c.args.self.now in
+    let known : c.in-Malloc.name.0 < length old.store.blocks = subst (IsKnownAmong (length old.store.blocks)) c.in-Malloc.is c.requires.known in
+    malloc_does c.args.t c.args.op.now old (record { store = c.malloc.new.self; owner = old.owner }) c.in-Malloc.letter c.in-Malloc.name c.in-Malloc.size c.call-call.result c.malloc.result refl
+    c.in-Malloc.is c.call-call.ensures known c.malloc.ensures.turn c.malloc.ensures.fits
+
+pub returns-in-Free-clause-acts : goal.returns-in-Free-clause-acts
+returns-in-Free-clause-acts g c =
+    let old = c.args.self.now in
+    let new : Holding = record { store = c.free-reply.new.self; owner = old.owner } in
+    let known : c.in-Free.name.0 < length old.store.blocks = subst (IsKnownAmong (length old.store.blocks)) c.in-Free.is c.requires.known in
+    subst (λ (a : Answer). Acts c.args.t c.args.op.now old new a.asked a.reply) (sym c.unasked.ensures)
+    (free_acts c.args.t c.args.op.now old new c.free-reply.result refl c.in-Free.letter c.in-Free.name c.call-call-in-Free.result c.in-Free.is c.call-call-in-Free.ensures known c.free-reply.ensures.turn)
+
+pub returns-in_ok-refuse-in-Refuse-clause-asks_arena : goal.returns-in_ok-refuse-in-Refuse-clause-asks_arena
+returns-in_ok-refuse-in-Refuse-clause-asks_arena g c =
+    let held = c.args.self.now.store.arenas in
+    let old = g.A.ArenaSource.seen c.args.arenas.now in
+    let new = g.A.ArenaSource.seen c.refuse.new.arenas in
+    subst (λ (a : Answer). Asks c.args.op.now sides.Arena (arena_asks a.asked.arena) (arena_refusals a.asked.arena) held held old new) (sym c.unasked-in-Refuse.ensures)
+    (told_asks c.args.op.now held old new c.requires.held.arenas_out sides.Arena c.in-Refuse.side c.in-Refuse.k c.in-Refuse.is c.in_ok-refuse-in-Refuse.ensures.arenas)
+
+pub returns-in_ok-refuse-in-Refuse-clause-asks_raw : goal.returns-in_ok-refuse-in-Refuse-clause-asks_raw
+returns-in_ok-refuse-in-Refuse-clause-asks_raw g c =
+    let held = c.args.self.now.store.raws in
+    let old = g.R.RawSource.seen c.args.raws.now in
+    let new = g.R.RawSource.seen c.refuse.new.raws in
+    subst (λ (a : Answer). Asks c.args.op.now sides.Raw (raw_asks a.asked.raw) (raw_refusals a.asked.raw) held held old new) (sym c.unasked-in-Refuse.ensures)
+    (told_asks c.args.op.now held old new c.requires.held.raws_out sides.Raw c.in-Refuse.side c.in-Refuse.k c.in-Refuse.is c.in_ok-refuse-in-Refuse.ensures.raws)
+
+pub returns-in_ok-refuse-in-Refuse-clause-held : goal.returns-in_ok-refuse-in-Refuse-clause-held
+returns-in_ok-refuse-in-Refuse-clause-held g c =
+    held_told c.args.self.now.store c.in-Refuse.side c.in-Refuse.k (g.A.ArenaSource.seen c.args.arenas.now) (g.A.ArenaSource.seen c.refuse.new.arenas) (g.R.RawSource.seen c.args.raws.now) (g.R.RawSource.seen c.refuse.new.raws)
+    c.requires.held c.in_ok-refuse-in-Refuse.ensures.arenas c.in_ok-refuse-in-Refuse.ensures.raws
+
+pub returns-in_err-refuse-in-Refuse-clause-fails_arena : goal.returns-in_err-refuse-in-Refuse-clause-fails_arena
+returns-in_err-refuse-in-Refuse-clause-fails_arena g c =
+    on_err c.from_residual.result (nothing_fails c.args.self.now.store.arenas (g.A.ArenaSource.seen c.args.arenas.now) (g.A.ArenaSource.seen c.refuse.new.arenas) c.requires.held.arenas_out c.in_err-refuse-in-Refuse.ensures.arenas_left)
+
+pub returns-in_err-refuse-in-Refuse-clause-fails_raw : goal.returns-in_err-refuse-in-Refuse-clause-fails_raw
+returns-in_err-refuse-in-Refuse-clause-fails_raw g c =
+    on_err c.from_residual.result (nothing_fails_unrefused c.args.self.now.store.raws (g.R.RawSource.seen c.args.raws.now) (g.R.RawSource.seen c.refuse.new.raws) c.requires.held.raws_out c.in_err-refuse-in-Refuse.ensures.raws_left)

@@ -1,7 +1,0 @@
-use Rattle.std.proofs.Common.{◌≡◌, take}
-use Rattle.machine_core.specs.Spots.{spots_from}
-use Rattle.machine_core.proofs.spot.spots_of.Given as goal
-
--- the spots of the slots so far
-abbrev pub invariant-loop-at : goal.invariant-loop-at
-invariant-loop-at l = l.spots ≡ spots_from 0 (take l.at l.slots)

@@ -1,0 +1,6 @@
+-- The names of blocks, tracks and snapshots.
+use Rattle.std.specs.Prelude.{ℕ, List}
+
+-- the bytes of a name
+abbrev pub Name : Type 0
+Name = List ℕ
