@@ -10,7 +10,7 @@ use Rattle.extents.proofs.Lists.{tally-append, tally_zero}
 use Rattle.raw_region.specs.Region.{PieceView}
 use Rattle.mem_base.specs.declared.history.Grant.{Grant}
 use Rattle.sources.specs.Source.{ArenaShape, SourceView}
-use Rattle.py_heap.specs.Heap.{HeapView, PoolHas, PoolsAreApart, IsHeap, IsBlock, IsFreed}
+use Rattle.py_heap.specs.Heap.{HeapView, PoolHas, PoolsAreApart, IsHeap, IsBlock, IsFreed, regions_of}
 use Rattle.debug_guard.specs.Guard.{Guard}
 use Rattle.domain_api.specs.Held.{AllWithin, AreHeld, AreSound, DomainsView}
 use Rattle.event_model.specs.Blocks.{Home, in_pool, in_raw, Block}
@@ -156,7 +156,7 @@ tally_spans es w x within apart = elim (spans_tells x w) [
     by e has (suc zero) is few none = absurd (omega (arith, lies_spans x e w (within e has) is, none))
     by e has (suc (suc n)) is few none = absurd (omega (arith, few))
 
-loans_within : (h : HeapView) (w : Window) → IsHeap h → AllWithin h.regions w → AllWithin h.loans w
+loans_within : (h : HeapView) (w : Window) → IsHeap h → AllWithin (regions_of h) w → AllWithin h.loans w
 loans_within h w heap within e has =
     let r = heap.within e has in
     let lies = within r.0 r.1.0 in

@@ -1,5 +1,6 @@
 -- The spots of blocks in slots.
 use Rattle.std.proofs.Common.{◌≡◌, ℕ, zero, suc, ◌+◌, ◌<◌, ◌≤◌, Bool, true, false, cond, List, [], ◌∷◌, ◌++◌, length, get_or, take, Option, Some, None, refl, sym, ap, subst, ◌∙◌, arith, inl, inr, ◌⊎◌, length-append}
+use Rattle.py_heap.specs.Heap.{regions_of}
 use Rattle.std.specs.Prelude.{◌==◌, is_some}
 use Rattle.std.proofs.lemmas.Bool.Decides.{eqb_tells}
 use Rattle.std.proofs.lemmas.List.{length-take-le}
@@ -133,12 +134,12 @@ image_there : (g : Guard) → take (length g.body + 8) (piece_of g).bytes ≡ im
 image_there g = ap (λ (n : ℕ). take n (image_of g.body ++ g.rest)) (sym (length-image_of g.body)) ∙ take-append_seam (image_of g.body) g.rest
 
 -- a block lies in one of the regions that are held
-lies : (slots : List (Option Guard)) (d : DomainsView) (i : ℕ) (g : Guard) → IsStore slots d → get_or slots i None ≡ Some g → LiesInOne (guard_extent g) (d.heap.regions ++ d.raws)
+lies : (slots : List (Option Guard)) (d : DomainsView) (i : ℕ) (g : Guard) → IsStore slots d → get_or slots i None ≡ Some g → LiesInOne (guard_extent g) ((regions_of d.heap) ++ d.raws)
 lies slots d i g store is = elim (slot_loan slots d i g store is) [
   | inl pooled ↦
       let w = store.sound.heap_is.within (guard_extent g) pooled in
-      record { region = w.0; is = has_left w.0 d.heap.regions d.raws w.1.0; maker = w.1.1; inside = (w.1.2, w.1.3) }
-  | inr raw ↦ record { region = guard_extent g; is = has_right (guard_extent g) d.heap.regions d.raws raw; maker = refl; inside = (omega arith, omega arith) }
+      record { region = w.0; is = has_left w.0 (regions_of d.heap) d.raws w.1.0; maker = w.1.1; inside = (w.1.2, w.1.3) }
+  | inr raw ↦ record { region = guard_extent g; is = has_right (guard_extent g) (regions_of d.heap) d.raws raw; maker = refl; inside = (omega arith, omega arith) }
 ]
 
 module _ (slots : List (Option Guard)) (d : DomainsView) (store : IsStore slots d) where

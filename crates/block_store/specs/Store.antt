@@ -1,5 +1,6 @@
 -- What contracts see of a store, and what one call does to it.
 use Rattle.std.specs.Prelude.{◌≡◌, ◌≢◌, ℕ, ◌-◌, List, get_or, replicate, slice_set, sum_by, [], Option, Some, None}
+use Rattle.py_heap.specs.Heap.{regions_of}
 use Rattle.mem_base.specs.Name.{Name}
 use Rattle.mem_base.specs.declared.reply.Counts.{Counts}
 use Rattle.mem_base.specs.declared.reply.Reply.{Reply}
@@ -48,7 +49,7 @@ view_of slots d = record {
   blocks = blocks_of d.heap.places slots;
   pieces = pieces_of slots;
   layout = d.heap.layout;
-  arenas = d.heap.regions;
+  arenas = regions_of d.heap;
   raws = d.raws;
 }
 

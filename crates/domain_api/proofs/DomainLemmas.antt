@@ -18,7 +18,7 @@ use Rattle.sources.specs.Holder.{Answered, AskedAtMostOnce, AskedUnrefused, Trad
 use Rattle.sources.specs.Source.{ArenaShape, SourceView}
 use Rattle.sources.proofs.CallerLemmas.{traded_nothing, unrefused_nothing}
 use Rattle.request_model.specs.Counts.{arena_asks, arena_refusals}
-use Rattle.py_heap.specs.Heap.{HeapView, RegionsAfter, RegionsBack}
+use Rattle.py_heap.specs.Heap.{HeapView, RegionsAfter, RegionsBack, regions_of}
 use Rattle.raw_heap.specs.Heap.{IsGot}
 use Rattle.raw_region.specs.Region.{PieceView}
 use Rattle.mem_base.specs.declared.trace.Letter.{Letter}
@@ -30,11 +30,11 @@ use Rattle.domain_api.specs.Held.{AllWithin, AreAskedOnce, AreHeld, AreSound, Ar
 -- ---- which heap
 
 -- a small block's place is in just one of the heap's regions
-pub owns_small : (heap : HeapView) (raws : List Extent) (e : Extent) → AreSound heap raws → Has e heap.loans → 1 ≤ e.len → tally (covers e.place) heap.regions ≡ 1
+pub owns_small : (heap : HeapView) (raws : List Extent) (e : Extent) → AreSound heap raws → Has e heap.loans → 1 ≤ e.len → tally (covers e.place) (regions_of heap) ≡ 1
 owns_small heap raws e sound has some =
     let w = sound.heap_is.within e has in
     let there : covers e.place w.0 ≡ 1 = covers_in e.place w.0 w.1.2 (omega (arith, some, w.1.3)) in
-    omega (arith, there, tally_has (covers e.place) w.0 heap.regions w.1.0, sound.heap_is.arenas_apart e.place)
+    omega (arith, there, tally_has (covers e.place) w.0 (regions_of heap) w.1.0, sound.heap_is.arenas_apart e.place)
 
 zero_or_one : (n : ℕ) → n ≤ 1 → (n ≡ 0) ⊎ (n ≡ 1)
 zero_or_one zero few = inl refl
@@ -42,12 +42,12 @@ zero_or_one (suc zero) few = inr refl
 zero_or_one (suc (suc n)) few = absurd (omega (arith, few))
 
 -- a raw block's place is in none
-pub owns_no_raw : (d : DomainsView) (arenas : SourceView ArenaShape) (raws : SourceView ℕ) (e : Extent) → AreHeld d arenas raws → Has e d.raws → 1 ≤ e.len → tally (covers e.place) d.heap.regions ≡ 0
+pub owns_no_raw : (d : DomainsView) (arenas : SourceView ArenaShape) (raws : SourceView ℕ) (e : Extent) → AreHeld d arenas raws → Has e d.raws → 1 ≤ e.len → tally (covers e.place) (regions_of d.heap) ≡ 0
 owns_no_raw d arenas raws e held has some =
     let mine : spans e.place raws.window ≡ 1 = lies_spans e.place e raws.window (held.raws_in e has) (covers_in e.place e (omega arith) (omega (arith, some))) in
-    tally_zero (covers e.place) d.heap.regions (λ r there. by r there mine (covers e.place r) refl (covers_most e.place r))
+    tally_zero (covers e.place) (regions_of d.heap) (λ r there. by r there mine (covers e.place r) refl (covers_most e.place r))
   where
-    by : (r : Extent) → Has r d.heap.regions → spans e.place raws.window ≡ 1 → (n : ℕ) → covers e.place r ≡ n → n ≤ 1 → n ≡ 0
+    by : (r : Extent) → Has r (regions_of d.heap) → spans e.place raws.window ≡ 1 → (n : ℕ) → covers e.place r ≡ n → n ≤ 1 → n ≡ 0
     by r there mine n is few = elim (zero_or_one n few) [
       | inl none ↦ none
       | inr one ↦ absurd (omega (arith, mine, lies_spans e.place r arenas.window (held.arenas_in r there) (is ∙ one), held.windows e.place))
@@ -74,15 +74,15 @@ module _ (h : HeapView) (rs : List Extent) (d : DomainsView) (is : record { heap
   own_held = subst (λ (x : DomainsView). AreHeld x arenas raws) (sym is) held
 
   -- the heap of small blocks
-  module _ (new : HeapView) (then : SourceView ArenaShape) (traded : Traded h.regions new.regions arenas then) where
+  module _ (new : HeapView) (then : SourceView ArenaShape) (traded : Traded (regions_of h) (regions_of new) arenas then) where
     pub small_traded : AreTraded d (record { heap = new; raws = rs }) arenas then raws raws
     small_traded = subst (λ (x : DomainsView). AreTraded x (record { heap = new; raws = rs }) arenas then raws raws) is
         (record { arena = traded; raw = traded_nothing rs rs raws raws own_held.raws_out refl refl refl refl })
 
-    pub small_held : AllWithin new.regions arenas.window → AreHeld (record { heap = new; raws = rs }) then raws
+    pub small_held : AllWithin (regions_of new) arenas.window → AreHeld (record { heap = new; raws = rs }) then raws
     small_held within = record {
       arenas_out = traded.held;
-      arenas_in = subst (AllWithin new.regions) (sym traded.window) within;
+      arenas_in = subst (AllWithin (regions_of new)) (sym traded.window) within;
       raws_out = own_held.raws_out;
       raws_in = own_held.raws_in;
       windows = subst (λ (w : Window). AreDisjoint w raws.window) (sym traded.window) own_held.windows;
@@ -92,7 +92,7 @@ module _ (h : HeapView) (rs : List Extent) (d : DomainsView) (is : record { heap
   module _ (new : List Extent) (then : SourceView ℕ) (traded : Traded rs new raws then) where
     pub raw_traded : AreTraded d (record { heap = h; raws = new }) arenas arenas raws then
     raw_traded = subst (λ (x : DomainsView). AreTraded x (record { heap = h; raws = new }) arenas arenas raws then) is
-        (record { arena = traded_nothing h.regions h.regions arenas arenas own_held.arenas_out refl refl refl refl; raw = traded })
+        (record { arena = traded_nothing (regions_of h) (regions_of h) arenas arenas own_held.arenas_out refl refl refl refl; raw = traded })
 
     pub raw_held : AllWithin new raws.window → AreHeld (record { heap = h; raws = new }) arenas then
     raw_held within = record {
@@ -197,18 +197,18 @@ regions_within grant.Refused seen old new same all = subst (λ (l : List Extent)
 regions_within (grant.Granted pools) seen old new more all = within_more more.0 old new seen.window all more.1.3 more.1.0
 
 -- and after a block came back
-pub regions_left : (p : ℕ) (old new : HeapView) (w : Window) → RegionsBack p old new → AllWithin old.regions w → AllWithin new.regions w
+pub regions_left : (p : ℕ) (old new : HeapView) (w : Window) → RegionsBack p old new → AllWithin (regions_of old) w → AllWithin (regions_of new) w
 regions_left p old new w back all = elim back [
   | inl same ↦ subst (λ (l : List Extent). AllWithin l w) (sym same.1) all
-  | inr gone ↦ within_fewer gone.1.0 old.regions new.regions w all gone.1.1.0
+  | inr gone ↦ within_fewer gone.1.0 (regions_of old) (regions_of new) w all gone.1.1.0
 ]
 
 -- ---- whose a block is
 
-pub is_small_block : (d : DomainsView) (arenas : SourceView ArenaShape) (raws : SourceView ℕ) (e : Extent) → AreHeld d arenas raws → IsLoan e d → 1 ≤ e.len → tally (covers e.place) d.heap.regions ≡ 1 → Has e d.heap.loans
+pub is_small_block : (d : DomainsView) (arenas : SourceView ArenaShape) (raws : SourceView ℕ) (e : Extent) → AreHeld d arenas raws → IsLoan e d → 1 ≤ e.len → tally (covers e.place) (regions_of d.heap) ≡ 1 → Has e d.heap.loans
 is_small_block d arenas raws e held loan some owned = elim loan [ inl small ↦ small | inr raw ↦ absurd (omega (arith, owned, owns_no_raw d arenas raws e held raw some)) ]
 
-pub is_raw_block : (d : DomainsView) (e : Extent) → AreSound d.heap d.raws → IsLoan e d → 1 ≤ e.len → tally (covers e.place) d.heap.regions ≢ 1 → Has e d.raws
+pub is_raw_block : (d : DomainsView) (e : Extent) → AreSound d.heap d.raws → IsLoan e d → 1 ≤ e.len → tally (covers e.place) (regions_of d.heap) ≢ 1 → Has e d.raws
 is_raw_block d e sound loan some other = elim loan [ inl small ↦ absurd (other (owns_small d.heap d.raws e sound small some)) | inr raw ↦ raw ]
 
 -- ---- a block of new domains

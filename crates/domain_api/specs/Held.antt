@@ -6,7 +6,7 @@ use Rattle.extents.specs.Extent.{Extent, Window, AreApart, AreDisjoint, LiesIn}
 use Rattle.extents.specs.Sums.{AllIn, Has}
 use Rattle.sources.specs.Source.{ArenaShape, SourceView}
 use Rattle.sources.specs.Holder.{Answered, AskedAtMostOnce, AskedNothing, AskedUnrefused, Traded}
-use Rattle.py_heap.specs.Heap.{HeapView, IsHeap}
+use Rattle.py_heap.specs.Heap.{HeapView, IsHeap, regions_of}
 use Rattle.domain_api.specs.declared.answers.Asked.{Asked}
 
 -- the domains: the heap of small blocks, and the raw regions that they hold, each of which is a block
@@ -29,7 +29,7 @@ pub record AreOut (held_arenas held_raws : List Extent) (arenas : SourceView Are
 
 -- what the domains hold is out at the sources
 abbrev pub AreHeld : DomainsView → SourceView ArenaShape → SourceView ℕ → Type 0
-AreHeld d arenas raws = AreOut d.heap.regions d.raws arenas raws
+AreHeld d arenas raws = AreOut (regions_of d.heap) d.raws arenas raws
 
 -- the extent is a block of one of the two heaps
 abbrev pub IsLoan : Extent → DomainsView → Type 0
@@ -60,7 +60,7 @@ pub record SamePlans
 -- the domains traded regions with the sources, and nothing else came or went
 pub record AreTraded (old new : DomainsView)
     (arenas arenas_then : SourceView ArenaShape) (raws raws_then : SourceView ℕ) : Type 0 where
-  pub arena : Traded old.heap.regions new.heap.regions arenas arenas_then
+  pub arena : Traded (regions_of old.heap) (regions_of new.heap) arenas arenas_then
   pub raw : Traded old.raws new.raws raws raws_then
 
 -- Where there was no memory: each source was asked at most once, the raw source did not refuse, and it was asked
@@ -88,5 +88,5 @@ pub record HasCounts (d : DomainsView) (c : Counts) : Type 0 where
   pub given : c.given ≡ d.heap.layout.given
   pub back : c.back ≡ d.heap.layout.back
   pub most : c.most ≡ d.heap.layout.most
-  pub out : c.out ≡ length d.heap.regions
+  pub out : c.out ≡ length (regions_of d.heap)
   pub pooled : c.pooled ≡ length d.heap.loans

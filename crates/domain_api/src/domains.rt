@@ -25,7 +25,7 @@ ghost use Rattle.debug_guard.specs.Guard.{fill_of, guard_extent};
 ghost use Rattle.request_model.specs.Counts.{raw_asks, raw_refusals};
 ghost use Rattle.request_model.specs.Decision.{asks, call_fault, decision};
 ghost use Rattle.sources.specs.Holder.{Answered, AskedUnrefused, Traded};
-ghost use Rattle.py_heap.specs.Heap.{empty_heap};
+ghost use Rattle.py_heap.specs.Heap.{empty_heap, regions_of};
 ghost use Rattle.domain_api.specs.Domains.{IsFreed, IsGivenUp, IsMade, IsTaken, IsTakenRaw, view_of_both};
 ghost use Rattle.domain_api.specs.Held.{AreAnswered, AreAskedNothing, AreAskedOnce, AreHeld, AreSound};
 ghost use Rattle.domain_api.specs.Held.{AreTraded, CanAsk, HasCounts, IsLoan, SamePlans};
@@ -326,7 +326,7 @@ impl Domains {
         requires held { AreHeld self (A.seen arenas.old) (R.seen raws.old) }
         ensures nothing { AreAskedNothing
             (A.seen arenas.old) (A.seen arenas.new) (R.seen raws.old) (R.seen raws.new) }
-        ensures arenas { Traded self.heap.regions [] (A.seen arenas.old) (A.seen arenas.new) }
+        ensures arenas { Traded (regions_of self.heap) [] (A.seen arenas.old) (A.seen arenas.new) }
         ensures raws { R.seen raws.new ≡ R.seen raws.old }
     {
         let Domains { heap, raw } = self;

@@ -1,4 +1,5 @@
 use Rattle.std.proofs.Common.{◌≡◌, ◌∙◌, ℕ, ap, arith, sym, subst, true≢false}
+use Rattle.py_heap.specs.Heap.{regions_of}
 use Rattle.extents.specs.Extent.{Extent, covers}
 use Rattle.extents.specs.Sums.{tally, Has}
 use Rattle.debug_guard.specs.Guard.{guard_extent}
@@ -15,7 +16,7 @@ free-requires-clause-loan g c =
     let held = own_held c.self.inside.heap c.self.inside.raw c.args.self.now c.self.view_is arenas raws c.requires.held in
     let loan = subst (λ (d : DomainsView). IsLoan e d) (sym c.self.view_is) c.requires.loan in
     let same : c.place.result ≡ e.place = c.place.ensures ∙ ap (λ (x : Extent). x.place) c.kill-piece.ensures.extent in
-    let there = subst (λ (p : ℕ). tally (covers p) d.heap.regions ≡ 1) same (c.owns.ensures.0 c.if-owns.true) in
+    let there = subst (λ (p : ℕ). tally (covers p) (regions_of d.heap) ≡ 1) same (c.owns.ensures.0 c.if-owns.true) in
     subst (λ (x : Extent). Has x d.heap.loans) (sym c.kill-piece.ensures.extent)
     (is_small_block d arenas raws e held loan (omega (arith, c.size-size.ensures.room)) there)
 
@@ -33,7 +34,7 @@ free-requires-else-owns-clause-loan g c =
     let same : c.place.result ≡ e.place = c.place.ensures ∙ ap (λ (x : Extent). x.place) c.kill-piece.ensures.extent in
     subst (λ (x : Extent). Has x d.raws) (sym c.kill-piece.ensures.extent)
     (is_raw_block d e c.self.invariant loan (omega (arith, c.size-size.ensures.room))
-    (λ there. true≢false (sym (c.owns.ensures.1 (subst (λ (p : ℕ). tally (covers p) d.heap.regions ≡ 1) (sym same) there)) ∙ c.if-owns.false)))
+    (λ there. true≢false (sym (c.owns.ensures.1 (subst (λ (p : ℕ). tally (covers p) (regions_of d.heap) ≡ 1) (sym same) there)) ∙ c.if-owns.false)))
 
 pub free-requires-else-owns-clause-held : goal.free-requires-else-owns-clause-held
 free-requires-else-owns-clause-held g c =

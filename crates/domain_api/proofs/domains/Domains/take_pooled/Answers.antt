@@ -1,5 +1,5 @@
 use Rattle.std.proofs.Common.{sym, subst}
-use Rattle.py_heap.specs.Heap.{HeapView}
+use Rattle.py_heap.specs.Heap.{HeapView, regions_of}
 use Rattle.domain_api.specs.Held.{AllWithin}
 use Rattle.domain_api.proofs.DomainLemmas.{heap_had_none, own_held, raw_had_none, regions_within, small_held, small_traded}
 use Rattle.domain_api.proofs.domains.Domains.take_pooled.Goals as goal
@@ -27,14 +27,14 @@ returns-in_err-piece-clause-held g c =
     let arenas = g.A.ArenaSource.seen c.args.arenas.now in let h = c.self.inside.heap in let rs = c.self.inside.raw in
     let held = own_held h rs c.args.self.now c.self.view_is arenas (g.R.RawSource.seen c.args.raws.now) c.requires.held in
     small_held h rs c.args.self.now c.self.view_is arenas _ c.requires.held c.alloc.new.self _ c.in_err-piece.ensures.traded
-    (subst (λ (h : HeapView). AllWithin h.regions arenas.window) (sym c.in_err-piece.ensures.failed) held.arenas_in)
+    (subst (λ (h : HeapView). AllWithin (regions_of h) arenas.window) (sym c.in_err-piece.ensures.failed) held.arenas_in)
 
 pub take_raw-requires-clause-held : goal.take_raw-requires-clause-held
 take_raw-requires-clause-held g c =
     let arenas = g.A.ArenaSource.seen c.args.arenas.now in let h = c.self.inside.heap in let rs = c.self.inside.raw in
     let held = own_held h rs c.args.self.now c.self.view_is arenas (g.R.RawSource.seen c.args.raws.now) c.requires.held in
     small_held h rs c.args.self.now c.self.view_is arenas _ c.requires.held c.alloc.new.self _ c.in_ok-piece.ensures.traded
-    (regions_within c.in_ok-piece.field-0.grant arenas h.regions c.alloc.new.self.regions c.in_ok-piece.ensures.regions held.arenas_in)
+    (regions_within c.in_ok-piece.field-0.grant arenas (regions_of h) (regions_of c.alloc.new.self) c.in_ok-piece.ensures.regions held.arenas_in)
 
 pub returns-in-Some-clause-traded : goal.returns-in-Some-clause-traded
 returns-in-Some-clause-traded g c =
@@ -45,4 +45,4 @@ returns-in-Some-clause-held g c =
     let arenas = g.A.ArenaSource.seen c.args.arenas.now in let h = c.self.inside.heap in let rs = c.self.inside.raw in
     let held = own_held h rs c.args.self.now c.self.view_is arenas (g.R.RawSource.seen c.args.raws.now) c.requires.held in
     small_held h rs c.args.self.now c.self.view_is arenas _ c.requires.held c.alloc.new.self _ c.in_ok-piece.ensures.traded
-    (regions_within c.in_ok-piece.field-0.grant arenas h.regions c.alloc.new.self.regions c.in_ok-piece.ensures.regions held.arenas_in)
+    (regions_within c.in_ok-piece.field-0.grant arenas (regions_of h) (regions_of c.alloc.new.self) c.in_ok-piece.ensures.regions held.arenas_in)
