@@ -4,3 +4,4 @@ pub use Rattle.event_model.proofs.HistoryLaws.{state_push, legal_push}
 pub use Rattle.event_model.proofs.LeftLaws.{leaves_less, legal_short}
 pub use Rattle.event_model.proofs.PlanLaws.{planned_more, heeds_more}
 pub use Rattle.event_model.proofs.TakenLaws.{few_taken}
+pub use Rattle.event_model.proofs.ScheduleLaws.{follows_push, takes_ready}

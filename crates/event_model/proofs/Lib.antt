@@ -8,6 +8,7 @@ mod LeftLaws
 mod NameLaws
 mod NullLaws
 mod PlanLaws
+mod ScheduleLaws
 mod SoundLaws
 mod TakenLaws
 mod WaitLaws

@@ -1,5 +1,6 @@
 -- Laws over histories.
-use Rattle.std.specs.Prelude.{◌≡◌, ◌≢◌, ◌↔◌, ◌⊎◌, ℕ, ◌+◌, ◌<◌, ◌≤◌, Bool, true, false, List, [], ◌∷◌, ◌++◌, length, Some, None, is_some}
+use Rattle.std.specs.Prelude.{◌≡◌, ◌≢◌, ◌↔◌, ◌⊎◌, ℕ, ◌+◌, ◌<◌, ◌≤◌, Bool, true, false, List, [], ◌∷◌, ◌++◌, map, length, Some, None, is_some}
+use Rattle.std.specs.List.{AllByRecursion}
 use Rattle.mem_base.specs.Plan.{Plan, IsPlanned}
 use Rattle.mem_base.specs.declared.history.Entry.{Entry}
 use Rattle.mem_base.specs.declared.history.Ask.TheVariants.{Refused}
@@ -18,6 +19,7 @@ use Rattle.event_model.specs.Events.{event, is_ready, left_in, next_action, ops_
 use Rattle.event_model.specs.History.{IsNext, IsLegal, IsDone, EndsInFault, last_state}
 use Rattle.event_model.specs.Plans.{GrowsBy, Heeds, is_planned, lists}
 use Rattle.event_model.specs.Replies.{ok, null, is_fault}
+use Rattle.event_model.specs.Schedule.{one_by_one, Takes, FollowsTo, Follows, runs, NeighboursDiffer}
 use Rattle.event_model.specs.State.{State, Held, is_owner}
 
 -- ---- one more entry
@@ -85,6 +87,31 @@ abbrev pub FreeTakes : Type 0
 FreeTakes = (tracks : List PlainTrack) (s : State) (e : Entry) (v : Letter) (name : Name)
     → next_action tracks s e.track ≡ Some (free v name) → (event tracks s e).1 ≡ ok
     → find (event tracks s e).0.held.blocks name ≡ None
+
+-- ---- the schedule
+
+-- the schedule takes one track at most, and leaves the same picks
+abbrev pub TakesOne : Type 0
+TakesOne = (ready : ℕ → Bool) (picks : List ℕ) (t u : ℕ) (left rest : List ℕ)
+    → Takes ready picks t left → Takes ready picks u rest → (t ≡ u) × (left ≡ rest)
+
+-- a history with one more entry, of the track that the schedule takes from the picks left, follows the picks
+abbrev pub OneMoreFollows : Type 0
+OneMoreFollows = (tracks : List PlainTrack) (picks : List (ℕ × ℕ)) (es : List Entry) (e : Entry)
+    → (left rest : List ℕ)
+    → FollowsTo tracks picks es left → Takes (is_ready tracks (last_state tracks es)) left e.track rest
+    → FollowsTo tracks picks (es ++ e ∷ []) rest
+
+-- the runs of a history are the tracks of its entries, each as long as it can be
+abbrev pub RunsAreStretches : Type 0
+RunsAreStretches = (es : List Entry)
+    → (one_by_one (runs es) ≡ map (λ e. e.track) es)
+    × NeighboursDiffer (runs es) × AllByRecursion (λ run. 1 ≤ run.1) (runs es)
+
+-- a legal history follows its own runs
+abbrev pub LegalFollowsItsRuns : Type 0
+LegalFollowsItsRuns = (tracks : List PlainTrack) (es : List Entry)
+    → IsLegal tracks es → Follows tracks (runs es) es
 
 -- ---- waiting
 

@@ -7,5 +7,6 @@ pub mod Lock
 pub mod Memory
 pub mod Plans
 pub mod Replies
+pub mod Schedule
 pub mod Shape
 pub mod State

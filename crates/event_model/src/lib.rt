@@ -23,12 +23,18 @@
 //! 3. After any other answer `advance` counts the operation as done, and a track that has done its last
 //!    one lets go of the lock.
 //!
+//! Which track does the next event is the schedule's choice. A trace has picks, a list of tracks, and the
+//! schedule passes over those that are not ready and takes the first that is. Where no pick is left, it is
+//! the first track that is ready, in the order of the trace. `Takes` says this of one event, and `Follows`
+//! of a history. A track is ready unless it has done all its operations, or is to take the lock while
+//! another track owns it.
+//!
 //! An entry of a history may come next where no fault has come, its track is ready, and each source
 //! answered exactly where the operation asks it. A history is legal where each entry may come after
 //! those before it.
 #![tactic(auto)]
 
-ghost use Rattle.event_model.specs.Laws.{OneMoreIsLegal, OneMoreState, OneMoreLeavesLess, LegalIsShort, FaultsChangeNothing, OthersBringNoFault, FaultIsLast, OtherNamesKeepTheirs, OnlyOkChangesBlocks, MallocGives, FreeTakes, OnlyAcquireWaits, OwnersGoOn, NoneReadyIsAllDone, OneMoreIsPlanned, OneMoreHeeds, NullExactly, LegalIsSound, FewAreTaken};
+ghost use Rattle.event_model.specs.Laws.{OneMoreIsLegal, OneMoreState, OneMoreLeavesLess, LegalIsShort, FaultsChangeNothing, OthersBringNoFault, FaultIsLast, OtherNamesKeepTheirs, OnlyOkChangesBlocks, MallocGives, FreeTakes, OnlyAcquireWaits, OwnersGoOn, NoneReadyIsAllDone, TakesOne, OneMoreFollows, RunsAreStretches, LegalFollowsItsRuns, OneMoreIsPlanned, OneMoreHeeds, NullExactly, LegalIsSound, FewAreTaken};
 
 /// A legal history with one more entry that may come next is legal, leads to that entry's event, and
 /// leaves less to do.
@@ -70,6 +76,20 @@ pub fn nothing_waits_for_ever()
     ensures waits { OnlyAcquireWaits }
     ensures owners { OwnersGoOn }
     ensures all { NoneReadyIsAllDone }
+{}
+
+/// The schedule takes one track for the next event, and a history with one more entry of that track
+/// follows the same picks.
+pub fn schedule_takes_one()
+    ensures one { TakesOne }
+    ensures more { OneMoreFollows }
+{}
+
+/// The runs of a history are the tracks of its entries, each as long as it can be; a legal history is the
+/// one that they schedule.
+pub fn runs_are_a_schedule()
+    ensures stretches { RunsAreStretches }
+    ensures follows { LegalFollowsItsRuns }
 {}
 
 /// What one more entry adds to the requests that a history wants to be refused, and to those that it
