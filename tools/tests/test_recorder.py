@@ -1,0 +1,203 @@
+"""Programs that are recorded and replayed. These tests need Python's headers and a compiler, and the program."""
+import os
+import re
+import subprocess
+import sys
+import tempfile
+import unittest
+
+import here
+from here import needs, replay, takes
+
+GROWS = takes("acquire\nmalloc m x 8\nrealloc m x 40\ncalloc m y 2 3\nfree m x\nfree m y\nheap\n")
+HAS_TRACKS = bool(here.PROGRAM) and replay("pymtrace 1\ntrack t\ntrack u\nacquire\npick u 1\n")[0] == 0
+TRACES = takes("start 1\ntraced\nsnapshot s\nstats s lineno plain 10\n")
+CAN_RECORD = here.can_record()
+
+# An extension's mistakes, made through ctypes.
+MISTAKE = """
+import ctypes
+api = ctypes.pythonapi
+api.PyMem_Malloc.restype = ctypes.c_void_p
+api.PyMem_Malloc.argtypes = [ctypes.c_size_t]
+api.PyMem_Free.argtypes = api.PyObject_Free.argtypes = [ctypes.c_void_p]
+block = api.PyMem_Malloc(32)
+"""
+OVERRUN = MISTAKE + "ctypes.memset(block, 0, 33)\nothers = [bytes(k) for k in range(20)]\napi.PyMem_Free(block)\n"
+WRONG_DOMAIN = MISTAKE + "api.PyObject_Free(block)\n"
+NO_LOCK = MISTAKE + "ctypes.CDLL(None).PyMem_Malloc(8)\n"
+
+# Appended to a script: the heap of the trace and the process's own account of it, at the same moment.
+ACCOUNT = """
+import sys, pymhooks
+pymhooks.mark("heap")
+pymhooks.put_aside(True)
+sys._debugmallocstats()
+pymhooks.put_aside(False)
+"""
+CHURN = """
+sizes = [100 + (k * 37) % 380 for k in range(97)]
+kept = []
+for wave in range(3):
+    for k in range(40):
+        kept += [bytes(size) for size in sizes]
+    kept[:] = kept[::9]
+del kept
+"""
+
+ODD_PROGRAMS = {
+    "an exception": ("x = [bytes(100) for _ in range(10)]\nraise ValueError('no')\n", 1),
+    "an exit without a word": ("import os\nx = [bytes(100) for _ in range(10)]\nos._exit(3)\n", 3),
+    "a kill": ("import os, signal\nx = [bytes(100) for _ in range(10)]\nos.kill(os.getpid(), signal.SIGKILL)\n", -9),
+    "a read of address 0": ("import ctypes\nx = [bytes(100) for _ in range(10)]\nctypes.string_at(0)\n", -11),
+    "a fork": ("import os\nx = [bytes(300) for _ in range(50)]\nif not os.fork():\n    os._exit(0)\nos.wait()\n", 0),
+    "a deep recursion": (
+        "import sys\nsys.setrecursionlimit(5000)\nkept = []\ndef dig(n):\n    kept.append(bytes(50 + n % 3))\n    n and dig(n - 1)\ndig(1000)\n",
+        0,
+    ),
+    "tracemalloc inside": ("import tracemalloc\ntracemalloc.start(3)\nx = [bytes(100) for _ in range(100)]\ntracemalloc.take_snapshot()\n", 0),
+    "coroutines": (
+        "import asyncio\nasync def one(n):\n    await asyncio.sleep(0)\n    return str(n)\nasync def all_of():\n"
+        "    return await asyncio.gather(*(one(k) for k in range(50)))\nasyncio.run(all_of())\n",
+        0,
+    ),
+}
+THREADS = """
+import sys, threading
+sys.setswitchinterval(1e-4)
+done = []
+def work(k):
+    for i in range(200):
+        done.append(bytes(i) + str(k).encode())
+threads = [threading.Thread(target=work, args=(k,)) for k in range(3)]
+for thread in threads: thread.start()
+for thread in threads: thread.join()
+"""
+
+
+def record(script, *options, status=0):
+    """Records the text of a script; returns the trace and what was printed."""
+    with tempfile.TemporaryDirectory() as folder:
+        path, trace = os.path.join(folder, "script.py"), os.path.join(folder, "trace")
+        with open(path, "w") as file:
+            file.write(script)
+        command = [here.RECORD, "--python", sys.executable, "--out", trace, *options, path]
+        ran = subprocess.run(command, capture_output=True, text=True)
+        if ran.returncode:
+            raise AssertionError(ran.stderr)
+        told = re.search(r"the script's process (?:was ended by signal|ended with status) (\d+)", ran.stderr)
+        ended = int(told.group(1)) if told else 0
+        if abs(status) != ended:
+            raise AssertionError(f"the script ended with {ended}: {ran.stderr}")
+        with open(trace) as file:
+            return file.read(), ran.stdout + ran.stderr
+
+
+def read_account(text):
+    """From sys._debugmallocstats: pools and blocks of each class, free pools, and arenas given, back and most."""
+    classes = {}
+    for size, pools, blocks in re.findall(r"^ *\d+ +(\d+) +(\d+) +(\d+) +\d+$", text, re.M):
+        classes[int(size)] = (int(pools), int(blocks))
+
+    def count(what):
+        return int(re.search(re.escape(what) + r" *= *([\d,]+)", text).group(1).replace(",", ""))
+
+    free = int(re.search(r"([\d,]+) unused pools", text).group(1).replace(",", ""))
+    return classes, free, (count("# arenas allocated total"), count("# arenas reclaimed"), count("# arenas highwater mark"))
+
+
+def read_heap(lines):
+    """The same of the lines that follow a `heap`, but for the arenas."""
+    classes, free = {}, 0
+    for line in lines:
+        words = line.split()
+        if words[0] == "arena":
+            free += int(words[3])
+        else:
+            size, used, full = int(words[1]), [], int(words[5])
+            if words[3] != "-":
+                used = [int(pool.split(":")[1]) for pool in words[3].split(",")]
+            classes[size] = (len(used) + full, sum(used) + full * (16336 // size))
+    return classes, free
+
+
+def heaps_of(report):
+    """The lines of each `heap` of a report."""
+    found = []
+    for line in report.split("\n"):
+        if " heap = " in line:
+            found.append([])
+        elif line.startswith("  ") and found:
+            found[-1].append(line)
+    return found
+
+
+@needs(CAN_RECORD, "the recording of real programs, since this machine has no compiler or no headers of Python")
+class Recorded(unittest.TestCase):
+    @needs(GROWS, "the heap against the process's own account: the program takes no calloc and realloc")
+    def test_the_heap_is_the_one_of_the_process(self):
+        trace, printed = record(CHURN + ACCOUNT, "--since", "start", "--debug", "--heaps", "0")
+        status, report = replay(trace[: trace.index("\nheap\n") + len("\nheap\n")])
+        self.assertEqual(status, 0)
+        classes, free, arenas = read_account(printed)
+        self.assertGreater(len(classes), 20)
+        self.assertEqual(read_heap(heaps_of(report)[-1]), (classes, free))
+        given, back, most = re.search(r"^summary arenas given (\d+) back (\d+) most (\d+)$", report, re.M).groups()
+        self.assertEqual((int(given), int(back), int(most)), arenas)
+
+    @needs(GROWS, "real faults: the program takes no calloc and realloc")
+    def test_an_overrun_is_found_by_the_replay(self):
+        trace, _ = record(OVERRUN, "--debug", status=-6)
+        status, report = replay(trace)
+        name = re.search(r"poke (\w+) 32 00fdfdfdfdfdfdfd", trace).group(1)
+        fault = f"main free m {name} = fault\n  bad_tail 0\n  block {name} size 32\n  head 6dfdfdfdfdfdfdfd\n  tail 00fdfdfdfdfdfdfd\n"
+        self.assertEqual(status, 1)
+        self.assertIn(fault, report)
+
+    @needs(GROWS, "real faults: the program takes no calloc and realloc")
+    def test_a_free_in_the_wrong_domain_is_found_without_the_debug_hooks(self):
+        status, report = replay(record(WRONG_DOMAIN)[0])
+        self.assertEqual(status, 1)
+        self.assertIn(" = fault\n  bad_id found 6d verified 6f\n", report)
+
+    @needs(GROWS, "real faults: the program takes no calloc and realloc")
+    def test_a_call_without_the_lock_is_found(self):
+        trace, _ = record(NO_LOCK, "--debug", status=-6)
+        status, report = replay(trace)
+        self.assertEqual(status, 1)
+        self.assertRegex(report, r"main malloc m b\d+ 8 = fault\n  unlocked\n")
+
+    @needs(GROWS, "odd programs: the program takes no calloc and realloc")
+    def test_odd_programs_give_traces(self):
+        for what, (script, ends) in ODD_PROGRAMS.items():
+            with self.subTest(what):
+                status, report = replay(record(script, status=ends)[0])
+                self.assertEqual(status, 0)
+                self.assertGreater(int(re.search(r"^summary blocks (\d+)", report, re.M).group(1)), 9)
+
+    @needs(HAS_TRACKS and GROWS, "threads: the program takes one track")
+    def test_threads_are_tracks(self):
+        trace, _ = record(THREADS)
+        status, report = replay(trace)
+        self.assertEqual(status, 0)
+        self.assertEqual(trace.count("\ntrack "), 4)
+        self.assertNotRegex(report, " = (busy|held|not_held|absent)\n")
+
+    def test_a_kept_log_is_converted_again(self):
+        with tempfile.TemporaryDirectory() as folder:
+            log = os.path.join(folder, "log")
+            whole, _ = record("x = [bytes(k) for k in range(50)]\n", "--keep-log", log)
+            ran = subprocess.run([here.RECORD, "--log", log, "--heaps", "0", "--frames", "2"], capture_output=True, text=True)
+        self.assertEqual(ran.returncode, 0)
+        calls = [line for line in ran.stdout.split("\n") if re.match("(malloc|calloc|realloc|free) ", line)]
+        self.assertEqual(calls, [line for line in whole.split("\n") if re.match("(malloc|calloc|realloc|free) ", line)])
+        self.assertRegex(ran.stdout, r"\ncall \S*script.py 1\n")
+
+    def test_a_recording_goes_into_a_log_of_few_records(self):
+        trace, printed = record("x = [bytes(k) for k in range(2000)]\n", "--log-max", "1000")
+        self.assertIn("the log was full before the program had ended: --log-max N makes it larger", printed)
+        self.assertEqual(trace[-6:], "\nheap\n")
+
+
+if __name__ == "__main__":
+    unittest.main()
