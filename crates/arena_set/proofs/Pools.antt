@@ -1,5 +1,5 @@
 -- Pools of an arena that are taken, started, and come back.
-use Rattle.std.proofs.Common.{◌≡◌, ℕ, zero, suc, ◌+◌, ◌-◌, ◌%◌, ◌<◌, ◌≤◌, ◌≢◌, inl, inr, List, [], ◌∷◌, ◌++◌, map, length, get_or, set, take, reverse, replicate, Option, Some, None, refl, sym, ap, subst, ◌∙◌, arith, length-set}
+use Rattle.std.proofs.Common.{◌≡◌, ℕ, zero, suc, ◌+◌, ◌-◌, ◌*◌, ◌%◌, ◌<◌, ◌≤◌, ◌≢◌, inl, inr, List, [], ◌∷◌, ◌++◌, map, length, get_or, set, take, reverse, replicate, Option, Some, None, refl, sym, ap, subst, ◌∙◌, arith, length-set}
 use Rattle.std.proofs.lemmas.List.{get_or-set_same, get_or-set_other, length-replicate, reverse-append, take-replicate}
 use Rattle.std.proofs.lemmas.Bool.Decides.{eqb_tells}
 use Rattle.std.specs.Option.{ForSome}
@@ -9,11 +9,12 @@ use Rattle.raw_region.specs.Region.{RegionView}
 use Rattle.links.specs.Nodes.{times}
 use Rattle.links.proofs.NodeLemmas.{times-here}
 use Rattle.pool_core.specs.Pool.{blocks_of, IsEmpty}
-use Rattle.arena_set.specs.declared.started.Started.{Started}
+use Rattle.arena_set.specs.Started.{Started, started_from, started_in}
 use Rattle.arena_set.specs.Flat.{part, flat}
-use Rattle.arena_set.specs.Arena.{ArenaView, total_at, numbers_from, new_arena, pool_loans, arena_loans, started_times, after_give_pool, after_start, AccountsFor, IsSound, IsArena, IsArenaRegion}
-use Rattle.arena_set.proofs.Flats.{all_set, all_gap, all_none, part_same, flat_none, flat_empty}
+use Rattle.arena_set.specs.Arena.{ArenaView, total_at, numbers_from, new_arena, pool_loans, arena_loans, started_times, after_give_pool, arena_view, first_pool, AccountsFor, IsSound, IsArena, IsArenaRegion}
+use Rattle.arena_set.proofs.Flats.{all_gap, all_none, part_same, flat_none, flat_empty}
 use Rattle.arena_set.proofs.Rows.{row_times, row_most, row_missing, row_all, times_from}
+use Rattle.arena_set.proofs.Starteds.{length-started, started_at, started_is}
 use Rattle.arena_set.proofs.Accounts.{none_lent, all_counted}
 
 pub times_other : (j k : ℕ) (xs : List ℕ) → k ≢ j → times j (k ∷ xs) ≡ times j xs
@@ -29,6 +30,7 @@ took_pool a k rest e s = record {
   below = λ j h. s.below j (subst (λ xs. 1 ≤ times j xs) (sym e) (omega arith));
   sound = s.sound;
   accounts = s.accounts;
+  stands = s.stands;
 }
 
 -- ---- a pool comes back, or is started
@@ -77,24 +79,15 @@ module _ (a : ArenaView) (k : ℕ) (sound : IsArena a) (lt : k < length a.pools)
     ]);
     sound = all_gap IsSound a.pools k sound.sound;
     accounts = subst (AccountsFor a.region) (sym (gave_loans was)) sound.accounts;
+    stands = λ j s there. elim (eqb_tells j k) [
+      | inl w ↦ let e = sym (get_or-set_same a.pools k None None lt) ∙ subst (λ i. get_or (set a.pools k None) i None ≡ Some s) w.1 there in absurd (cc)
+      | inr w ↦ sound.stands j s (sym (get_or-set_other a.pools k j None None w.1) ∙ there)
+    ];
   }
 
-  module _ (s : Started) (fresh : get_or a.pools k None ≡ None) (fine : IsSound s) (none : IsEmpty s.pool) where
-    pub started_loans : arena_loans (after_start a k s) ≡ arena_loans a
+  module _ (s : Started) (fresh : get_or a.pools k None ≡ None) (none : IsEmpty s.pool) where
+    pub started_loans : lent (set a.pools k (Some s)) ≡ arena_loans a
     started_loans = same_loans (Some s) (λ t e. let w : Some t ≡ None = sym e ∙ fresh in absurd (cc)) (λ t e. let w : s ≡ t = cc in subst (λ (u : Started). IsEmpty u.pool) w none)
-
-    pub started_pool : IsArena (after_start a k s)
-    started_pool = record {
-      region = sound.region;
-      count = length-set a.pools k (Some s) ∙ sound.count;
-      free = λ j. elim (eqb_tells k j) [
-        | inl w ↦ subst (λ i. times i a.free + started_times (get_or (set a.pools k (Some s)) i None) ≤ 1) w.1 (let g = ap started_times (get_or-set_same a.pools k (Some s) None lt) in omega arith)
-        | inr w ↦ let g = ap started_times (get_or-set_other a.pools k j (Some s) None (λ e. w.1 (sym e))) in let f = sound.free j in omega arith
-      ];
-      below = λ j h. subst (λ n. j < n) (sym (length-set a.pools k (Some s))) (sound.below j h);
-      sound = all_set IsSound a.pools k s sound.sound fine;
-      accounts = subst (AccountsFor a.region) (sym started_loans) sound.accounts;
-    }
 
 -- ---- an arena of which all pools are free
 
@@ -131,6 +124,7 @@ new_is_arena r s home =
       below = λ j h. let t = times_from 0 n j in let b = t.1 h in let l = length-replicate n none in omega arith;
       sound = all_none IsSound n;
       accounts = subst (AccountsFor r) (sym (flat_none (pool_loans r.base r.maker) 0 n)) (all_counted r home);
+      stands = λ j s there. let z = none_at n j in let e = ap started_times there in absurd (omega arith);
     }
 
 -- ---- the lists of a new arena
@@ -147,16 +141,33 @@ none_listed count items e = ap reverse e
 pub all_listed : (count : ℕ) (xs : List ℕ) → xs ≡ numbers_from (count - count) count → xs ≡ numbers_from 0 count
 all_listed count xs e = let z : count - count ≡ 0 = omega arith in e ∙ ap (λ n. numbers_from n count) z
 
-pub cut_pools : (n : ℕ) (ps : List (Option Started)) → n ≤ 64 → ps ≡ replicate 64 None → take n ps ≡ replicate n None
-cut_pools n ps few e = let none : Option Started = None in ap (take n) e ∙ take-replicate n 64 none few
+-- no number is one of a pool that was started
+pub none_told : (cells : List (Option ℕ)) (at n : ℕ) → started_from cells at (replicate n None) ≡ replicate n None
+none_told cells at zero = refl
+none_told cells at (suc n) = ap (λ ps. None ∷ ps) (none_told cells (at + 16384) n)
 
-pub new_arena_is : (r : RegionView) (n : ℕ) (free : List ℕ) (pools ps : List (Option Started)) → n ≡ total_at r.base → free ≡ numbers_from 0 n → pools ≡ take n ps → ps ≡ replicate 64 None → record { region = r; free = free; pools = pools } ≡ new_arena r
-new_arena_is r n free pools ps e f p all =
+pub new_arena_is : (r : RegionView) (n : ℕ) (free : List ℕ) (now os : List (Option ℕ)) → n ≡ total_at r.base → free ≡ numbers_from 0 n → now ≡ take n os → os ≡ replicate 64 None → record { region = r; free = free; pools = started_from r.cells (first_pool r.base) now } ≡ new_arena r
+new_arena_is r n free now os e f p all =
     let most : n ≤ 64 = let m = most_pools r.base in omega arith in
+    let none : Option ℕ = None in
     let fs : free ≡ numbers_from 0 (total_at r.base) = f ∙ ap (numbers_from 0) e in
-    let pools_are : pools ≡ replicate (total_at r.base) None = p ∙ cut_pools n ps most all ∙ ap (λ k. replicate k None) e in
-    λ i. record { region = r; free = fs i; pools = pools_are i }
+    let numbers : now ≡ replicate (total_at r.base) None = p ∙ (ap (take n) all ∙ (take-replicate n 64 none most ∙ ap (λ k. replicate k none) e)) in
+    let pools : started_from r.cells (first_pool r.base) now ≡ replicate (total_at r.base) None = ap (started_from r.cells (first_pool r.base)) numbers ∙ none_told r.cells (first_pool r.base) (total_at r.base) in
+    λ i. record { region = r; free = fs i; pools = pools i }
 
 -- no more pools are free than there are
 pub free_most : (a : ArenaView) → IsArena a → length a.free ≤ length a.pools
 free_most a s = let all = row_times (length a.pools) a.free s.below in let m = row_most (length a.pools) (λ j. times j a.free) (λ j. let f = s.free j in omega arith) in omega arith
+
+-- a pool that comes back has no number
+pub gave_view : (r : RegionView) (free now : List ℕ) (os : List (Option ℕ)) (k : ℕ) → now ≡ k ∷ free → k < length (started_from r.cells (first_pool r.base) os) → after_give_pool (arena_view r free os) k ≡ arena_view r now (set os k None)
+gave_view r free now os k listed lt =
+    let none : Option ℕ = None in
+    let size = length-started r.cells (first_pool r.base) os in
+    let pools : started_from r.cells (first_pool r.base) (set os k None) ≡ set (started_from r.cells (first_pool r.base) os) k None =
+    started_is r.cells (first_pool r.base) (set os k None) (set (started_from r.cells (first_pool r.base) os) k None) (length-set (started_from r.cells (first_pool r.base) os) k None ∙ (size ∙ sym (length-set os k None))) (λ i less. elim (eqb_tells i k) [
+      | inl w ↦ subst (λ j. started_in r.cells (first_pool r.base + 16384 * j) (get_or (set os k None) j None) ≡ get_or (set (started_from r.cells (first_pool r.base) os) k None) j None) (sym w.1)
+          (ap (started_in r.cells (first_pool r.base + 16384 * k)) (get_or-set_same os k none None (omega arith)) ∙ sym (get_or-set_same (started_from r.cells (first_pool r.base) os) k None None lt))
+      | inr w ↦ ap (started_in r.cells (first_pool r.base + 16384 * i)) (get_or-set_other os k i none None w.1) ∙ (sym (started_at r.cells (first_pool r.base) os i) ∙ sym (get_or-set_other (started_from r.cells (first_pool r.base) os) k i None None w.1))
+    ]) in
+    λ i. record { region = r; free = sym listed i; pools = sym pools i }

@@ -2,12 +2,12 @@
 use Rattle.std.specs.Prelude.{◌≡◌, ℕ, zero, suc, ◌+◌, ◌-◌, ◌*◌, ◌%◌, ◌<◌, ◌≤◌, ◌==◌, if◌then◌else◌, List, [], ◌∷◌, length, map, get_or, set, replicate, Option, Some, None}
 use Rattle.raw_region.specs.declared.maker.Maker.{Maker}
 use Rattle.raw_region.specs.Region.{RegionView, PieceView}
-use Rattle.raw_region.specs.Cells.{away, with_run}
 use Rattle.extents.specs.Sums.{tally}
 use Rattle.extents.specs.Extent.{Extent, covers}
 use Rattle.pool_core.specs.Pool.{size_of, blocks_of, next_block, after_take, after_give, IsPool}
+use Rattle.pool_core.specs.Plain.{home, InRun, StandsFor}
 use Rattle.links.specs.Nodes.{times}
-use Rattle.arena_set.specs.declared.started.Started.{Started}
+use Rattle.arena_set.specs.Started.{Started, plain_of, started_from}
 use Rattle.arena_set.specs.Flat.{AllSome, flat}
 
 -- an arena: its region, its free pools, the next one first, and each of its pools that was started
@@ -49,11 +49,6 @@ pool_loans base maker k s = map (block_extent base maker (pool_offset base k) (s
 abbrev pub arena_loans : ArenaView → List Extent
 arena_loans a = flat (pool_loans a.region.base a.region.maker) 0 a.pools
 
--- 1 for a byte at home
-abbrev pub home : Option ℕ → ℕ
-home None = 0
-home (Some b) = 1
-
 -- each byte is at home or in just one of the extents
 abbrev pub AccountsFor : RegionView → List Extent → Type 0
 AccountsFor r es = (i : ℕ) → i < length r.cells → home (get_or r.cells i None) + tally (covers (r.base + i)) es ≡ 1
@@ -73,7 +68,11 @@ pub record IsArenaRegion (r : RegionView) : Type 0 where
   pub aligned : r.base % 4096 ≡ 0
   pub somewhere : 1 ≤ r.base
 
--- free pools are distinct and not started, and just the blocks in use are lent
+-- the pools are in the region's bytes
+abbrev pub AllStand : RegionView → List (Option Started) → Type 0
+AllStand r pools = (k : ℕ) (s : Started) → get_or pools k None ≡ Some s → StandsFor r.cells (pool_offset r.base k) (plain_of s)
+
+-- free pools are distinct and not started, just the blocks in use are lent, and the bytes stand for the pools
 pub record IsArena (a : ArenaView) : Type 0 where
   pub region : IsArenaRegion a.region
   pub count : length a.pools ≡ total_at a.region.base
@@ -81,6 +80,11 @@ pub record IsArena (a : ArenaView) : Type 0 where
   pub below : (k : ℕ) → 1 ≤ times k a.free → k < length a.pools
   pub sound : AllSome IsSound a.pools
   pub accounts : AccountsFor a.region (arena_loans a)
+  pub stands : AllStand a.region a.pools
+
+-- an arena by its region, its free pools and the numbers that the others were started under: the bytes tell the rest
+abbrev pub arena_view : RegionView → List ℕ → List (Option ℕ) → ArenaView
+arena_view region free numbers = record { region = region; free = free; pools = started_from region.cells (first_pool region.base) numbers }
 
 -- ---- what calls do to one arena
 
@@ -88,28 +92,27 @@ pub record IsArena (a : ArenaView) : Type 0 where
 abbrev pub after_give_pool : ArenaView → ℕ → ArenaView
 after_give_pool a k = record a { free = k ∷ a.free; pools = set a.pools k None }
 
--- the arena after pool k was started
-abbrev pub after_start : ArenaView → ℕ → Started → ArenaView
-after_start a k s = record a { pools = set a.pools k (Some s) }
+-- b is a with pool k as t. No cell has changed but those of pool k
+pub record PoolChange (a b : ArenaView) (k : ℕ) (t : Started) : Type 0 where
+  pub base : b.region.base ≡ a.region.base
+  pub maker : b.region.maker ≡ a.region.maker
+  pub long : length b.region.cells ≡ length a.region.cells
+  pub free : b.free ≡ a.free
+  pub pools : b.pools ≡ set a.pools k (Some t)
+  pub beside : (i : ℕ) → (InRun (pool_offset a.region.base k) 16384 i → ⊥) → get_or b.region.cells i None ≡ get_or a.region.cells i None
+
+-- the pool after its next block was lent
+abbrev pub after_lending : Started → Started
+after_lending s = record s { pool = after_take s.pool }
+
+-- the pool after the block at an offset came home
+abbrev pub after_mending : Started → ℕ → Started
+after_mending s off = record s { pool = after_give s.pool off }
 
 -- where the block that pool k gives next stands in the region
 abbrev pub next_offset : ArenaView → ℕ → Started → ℕ
 next_offset a k s = pool_offset a.region.base k + next_block s.pool
 
--- the arena after pool k lent that block
-abbrev pub after_lend : ArenaView → ℕ → Started → ArenaView
-after_lend a k s = record a {
-  region = record a.region { cells = away a.region.cells (next_offset a k s) (size_of s.pool) };
-  pools = set a.pools k (Some (record s { pool = after_take s.pool }));
-}
-
 -- where the piece stands in pool k
 abbrev pub piece_offset : ArenaView → ℕ → PieceView → ℕ
 piece_offset a k piece = piece.place - (a.region.base + pool_offset a.region.base k)
-
--- the arena after a piece came home to pool k
-abbrev pub after_mend : ArenaView → ℕ → Started → PieceView → ArenaView
-after_mend a k s piece = record a {
-  region = record a.region { cells = with_run a.region.cells (piece.place - a.region.base) (length piece.bytes) (map Some piece.bytes) };
-  pools = set a.pools k (Some (record s { pool = after_give s.pool (piece_offset a k piece) }));
-}

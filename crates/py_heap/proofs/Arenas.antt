@@ -13,7 +13,7 @@ use Rattle.heap_model.specs.Tables.{PoolLine}
 use Rattle.heap_model.specs.Ground.{Site, in_arena}
 use Rattle.heap_model.proofs.Ground.{places_are_in_arenas}
 use Rattle.arena_set.specs.declared.pool_id.PoolId.{PoolId}
-use Rattle.arena_set.specs.declared.started.Started.{Started}
+use Rattle.arena_set.specs.Started.{Started}
 use Rattle.arena_set.specs.Flat.{AllSome, part, flat}
 use Rattle.arena_set.specs.Arena.{ArenaView, total_at, pool_offset, block_extent, pool_loans, arena_loans, IsArena, IsSound}
 use Rattle.arena_set.specs.Set.{SetView, pool_line, pools_of, regions_of, loans_of, IsSet}

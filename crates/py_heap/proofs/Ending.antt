@@ -141,7 +141,7 @@ new_heap s set_is classes marks counts =
     let same : start ≡ s = sym (λ i. record { set = set_is i; classes = classes i; marks = marks i; taken = counts.0 i; given = counts.1 i; back = counts.2 i; most = counts.3 i; pooled = counts.4 i }) in
     let kept : IsKeptState start = record {
       kept = empty_tables_are_kept;
-      sound_set = record { listed = λ i. refl; arenas = tt; apart = λ x. omega arith };
+      sound_set = record { listed = λ i. refl; arenas = tt; apart = λ x. omega arith; named = λ i a e. absurd (cc) };
       apart = λ x. omega arith;
       numbered = refl;
       few = omega arith;

@@ -21,8 +21,8 @@ use Rattle.heap_model.proofs.Places.{place_there}
 use Rattle.heap_model.proofs.Ground.{address_finds_pool}
 use Rattle.heap_model.proofs.Unplaced.{freed_full_is_unplaced, freed_one_is_unplaced}
 use Rattle.arena_set.specs.declared.pool_id.PoolId.{PoolId}
-use Rattle.arena_set.specs.declared.started.Started.{Started}
-use Rattle.arena_set.specs.Arena.{ArenaView, pool_offset, pool_loans, block_extent, piece_offset, after_mend}
+use Rattle.arena_set.specs.Started.{Started}
+use Rattle.arena_set.specs.Arena.{ArenaView, pool_offset, pool_loans, block_extent, piece_offset, after_mending}
 use Rattle.arena_set.specs.Set.{SetView, pools_of, regions_of, loans_of, usable_of, dry_of, IsSet}
 use Rattle.arena_set.specs.Calls.{IsStarted, CanMend, Mends, GivesPool}
 use Rattle.arena_set.proofs.Flats.{inside}
@@ -184,31 +184,28 @@ module _ (old new : SetView) (id : PoolId) (piece : PieceView) (full empty : Boo
       let at : piece_offset m.a id.pool piece ≡ (piece_is).off = omega arith in
       subst (λ o. live_of m.s.pool ≡ live_of (after_give m.s.pool o) + 1) (sym at) (gave m.s.pool (piece_is).off (pool_sound old id m.a m.s sound m.started) (piece_is).held).0.live
 
+  base_back : m.a.region.base ≡ m.b.region.base
+  base_back = sym m.change.base
+
   pub mend_of : MendOf y full empty old new
   mend_of = record {
     lines = replaced-map line_of _ _ (pools_of old.arenas) (pools_of new.arenas) m.pools;
     was_full = m.was_full;
     now_empty = (λ h. let z = m.now_empty.0 h in let f = fewer in omega arith, λ e. m.now_empty.1 (let f = fewer in omega arith));
     some = let f = fewer in omega arith;
-    sites = ap sites_of m.arena.arenas ∙ sites_same old.arenas id.arena m.a _ m.started.at.some m.started.at.there refl;
+    sites = ap sites_of m.arena.arenas ∙ sites_same old.arenas id.arena m.a m.b m.started.at.some m.started.at.there m.change.base;
     count = ap length m.arena.arenas ∙ length-set old.arenas (id.arena - 1) _;
   }
 
   pub after : After new id y
   after =
-      let some = m.started.at.some in let lt = inside old.arenas (id.arena - 1) m.a m.started.at.there in
-      let s : Started = record m.s { pool = after_give m.s.pool (piece_offset m.a id.pool piece) } in
-      let a : ArenaView = after_mend m.a id.pool m.s piece in
       let f = fewer in
-      let live : y.live - 1 ≡ live_of s.pool = omega arith in
+      let live : y.live - 1 ≡ live_of (after_give m.s.pool (piece_offset m.a id.pool piece)) = omega arith in
       record {
-        a = a;
-        s = s;
-        started = record {
-          at = record { some = some; there = ap (λ l. get_or l (id.arena - 1) None) m.arena.arenas ∙ get_or-set_same old.arenas (id.arena - 1) (Some a) None lt };
-          there = get_or-set_same m.a.pools id.pool (Some s) None (pool_inside old id m.a m.s m.started);
-        };
-        is = λ i. record { number = y.number; class = y.class; arena = y.arena; slot = y.slot; place = y.place; live = live i };
+        a = m.b;
+        s = after_mending m.s (piece_offset m.a id.pool piece);
+        started = m.now;
+        is = λ i. record { number = y.number; class = y.class; arena = y.arena; slot = y.slot; place = base_back i + pool_offset (base_back i) id.pool; live = live i };
       }
 
 -- ---- the call

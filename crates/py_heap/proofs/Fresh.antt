@@ -12,6 +12,7 @@ use Rattle.layout_model.specs.Sizes.{size_of_class, capacity}
 use Rattle.layout_model.proofs.CallerLemmas.{many}
 use Rattle.links.specs.Nodes.{times}
 use Rattle.pool_core.specs.Pool.{PoolView, live_of, new_pool, HasRoom}
+use Rattle.pool_core.specs.Plain.{new_plain}
 use Rattle.pool_core.proofs.Moves.{new_is_pool}
 use Rattle.heap_model.specs.Tables.{PoolLine, spot_of, with_one_more}
 use Rattle.heap_model.specs.View.{places_of}
@@ -20,9 +21,9 @@ use Rattle.heap_model.proofs.Placed.{new_pool_is_placed}
 use Rattle.heap_model.proofs.Places.{places_long}
 use Rattle.heap_model.proofs.Counts.{started_and_lent}
 use Rattle.arena_set.specs.declared.pool_id.PoolId.{PoolId}
-use Rattle.arena_set.specs.declared.started.Started.{Started}
-use Rattle.arena_set.specs.Arena.{ArenaView, after_start, started_times}
-use Rattle.arena_set.specs.Set.{SetView, pools_of, regions_of, loans_of, usable_of, dry_of, IsSet}
+use Rattle.arena_set.specs.Started.{Started, started_of}
+use Rattle.arena_set.specs.Arena.{ArenaView, started_times}
+use Rattle.arena_set.specs.Set.{SetView, pool_line, pools_of, regions_of, loans_of, usable_of, dry_of, IsSet}
 use Rattle.arena_set.specs.Calls.{IsFirst, IsStarted, CanStart, CanLend, TakesPool, Starts, Lends}
 use Rattle.arena_set.specs.Rule.{GavePool}
 use Rattle.arena_set.proofs.Flats.{inside}
@@ -35,7 +36,7 @@ use Rattle.py_heap.proofs.Lending.{LentOf, lent_of, not_full_in, lists_at}
 live_new : (arena c : ℕ) → c < 32 → live_of (new_pool arena c) ≡ 0
 live_new arena c small = let p = new_is_pool arena c small in let live = p.live in let z = zero-div (size_of_class c) in omega arith
 
-module _ (old : State) (k : IsKeptState old) (c n : ℕ) (small : c < 32) (none : (class_at old c).spots ≡ []) (first : IsFirst old.set n) (plain : PoolView) (is_new : plain ≡ new_pool n c)
+module _ (old : State) (k : IsKeptState old) (c n : ℕ) (small : c < 32) (none : (class_at old c).spots ≡ []) (first : IsFirst old.set n)
     (set1 : SetView) (id : PoolId) (taken : TakesPool old.set set1 id) (gave : GavePool id.arena old.set set1) (regions1 : regions_of set1.arenas ≡ regions_of old.set.arenas)
     (loans1 : loans_of set1.arenas ≡ loans_of old.set.arenas) (pools1 : pools_of set1.arenas ≡ pools_of old.set.arenas) (sound1 : IsSet set1) where
   same_arena : n ≡ id.arena
@@ -53,36 +54,29 @@ module _ (old : State) (k : IsKeptState old) (c n : ℕ) (small : c < 32) (none 
         none_started None e = refl
         none_started (Some s) e = absurd (omega arith)
 
-  plain_is : plain ≡ new_pool id.arena plain.class
-  plain_is = subst (λ m. plain ≡ new_pool m plain.class) same_arena (is_new ∙ ap (new_pool n) (sym (ap (λ (p : PoolView). p.class) is_new)))
+  abbrev plain : PoolView
+  plain = new_pool id.arena c
 
-  pub can_start : CanStart set1 id plain
-  can_start = record { a = record taken.a { free = taken.left }; pool = taken.taken; fresh = no_pool; new = plain_is }
+  pub can_start : CanStart set1 id
+  can_start = record { a = record taken.a { free = taken.left }; pool = taken.taken; fresh = no_pool }
 
   -- the pool is started
-  module _ (set2 : SetView) (starts : Starts set1 set2 id (record { number = old.taken; pool = plain })) (regions2 : regions_of set2.arenas ≡ regions_of set1.arenas)
+  module _ (set2 : SetView) (starts : Starts set1 set2 id (started_of old.taken (new_plain id.arena c))) (regions2 : regions_of set2.arenas ≡ regions_of set1.arenas)
       (loans2 : loans_of set2.arenas ≡ loans_of set1.arenas) (same2 : (usable_of set2 ≡ usable_of set1) × (dry_of set2 ≡ dry_of set1)) (sound2 : IsSet set2) where
     abbrev s : Started
-    s = record { number = old.taken; pool = plain }
+    s = started_of old.taken (new_plain id.arena c)
 
     abbrev a2 : ArenaView
-    a2 = after_start starts.a id.pool s
+    a2 = starts.b
 
     pub started : IsStarted set2 id a2 s
-    started =
-        let some = starts.at.some in
-        let lt = inside set1.arenas (id.arena - 1) starts.a starts.at.there in
-        let low : id.pool < length starts.a.pools = subst (λ (z : ArenaView). id.pool < length z.pools) (at_once set1 id.arena _ starts.a taken.taken.at starts.at) taken.taken.inside in
-        record {
-          at = record { some = some; there = ap (λ l. get_or l (id.arena - 1) None) starts.arena.arenas ∙ get_or-set_same set1.arenas (id.arena - 1) (Some a2) None lt };
-          there = get_or-set_same starts.a.pools id.pool (Some s) None low;
-        }
+    started = starts.now
 
     idle : live_of plain ≡ 0
-    idle = ap live_of is_new ∙ live_new n c small
+    idle = live_new id.arena c small
 
     class_is : plain.class ≡ c
-    class_is = ap (λ (p : PoolView). p.class) is_new
+    class_is = refl
 
     has_room : HasRoom plain
     has_room = let z = idle in let m = many c small in let e = ap capacity class_is in omega arith
@@ -109,7 +103,8 @@ module _ (old : State) (k : IsKeptState old) (c n : ℕ) (small : c < 32) (none 
       came : Inserted y (lines_of old.set.arenas) (lines_of set3.arenas)
       came =
           let first_come : Inserted (line_at id a2 s) (lines_of old.set.arenas) (lines_of set2.arenas) =
-          subst (λ l. Inserted (line_at id a2 s) (map line_of l) (lines_of set2.arenas)) pools1 (inserted-map line_of _ (pools_of set1.arenas) (pools_of set2.arenas) starts.pools) in
+          subst (λ l. Inserted (line_at id a2 s) (map line_of l) (lines_of set2.arenas)) pools1
+          (subst (λ b. Inserted (line_of (pool_line id.arena b id.pool s)) (map line_of (pools_of set1.arenas)) (lines_of set2.arenas)) (sym starts.change.base) (inserted-map line_of _ (pools_of set1.arenas) (pools_of set2.arenas) starts.pools)) in
           started_and_lent (tables_of old) (line_at id a2 s) (lines_of set2.arenas) (lines_of set3.arenas) k.kept refl first_come (lent).lines
 
       apart_spots : (x : PoolLine) → Has x (lines_of old.set.arenas) → spot_of x ≢ spot_of y
@@ -132,7 +127,7 @@ module _ (old : State) (k : IsKeptState old) (c n : ℕ) (small : c < 32) (none 
 
       sites_are : sites_of set3.arenas ≡ sites_of old.set.arenas
       sites_are =
-          (lent).sites ∙ (ap sites_of starts.arena.arenas ∙ sites_same set1.arenas id.arena starts.a a2 starts.at.some starts.at.there refl)
+          (lent).sites ∙ (ap sites_of starts.arena.arenas ∙ sites_same set1.arenas id.arena starts.a a2 starts.at.some starts.at.there starts.change.base)
           ∙ (ap sites_of taken.arenas ∙ sites_same old.set.arenas id.arena taken.a (record taken.a { free = taken.left }) taken.at.some taken.at.there refl)
 
       count_is : length set3.arenas ≡ length old.set.arenas

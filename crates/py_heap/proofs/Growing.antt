@@ -18,7 +18,7 @@ use Rattle.heap_model.specs.Ground.{Site}
 use Rattle.std.specs.List.{range_with_len}
 use Rattle.links.specs.Nodes.{times}
 use Rattle.arena_set.specs.Flat.{AllSome}
-use Rattle.arena_set.specs.Set.{SetView, lines_of as lines_of_arenas, pools_of, regions_of, loans_of, usable_of, dry_entry, usable_times, IsSet}
+use Rattle.arena_set.specs.Set.{SetView, lines_of as lines_of_arenas, pools_of, regions_of, loans_of, usable_of, dry_entry, usable_times, IsSet, AreNamed}
 use Rattle.arena_set.specs.Arena.{IsArena, total_at, new_arena as first_arena}
 use Rattle.arena_set.specs.Rule.{CameAlone}
 use Rattle.py_heap.specs.Heap.{BeginsIfThere, Serves}
@@ -34,6 +34,7 @@ set_kept old new usable arenas s = record {
   listed = λ i. ap (times i) usable ∙ s.listed i ∙ ap (λ es. usable_times (get_or es i None)) (sym arenas);
   arenas = subst (AllSome IsArena) (sym arenas) s.arenas;
   apart = subst (λ es. AreApart (regions_of es)) (sym arenas) s.apart;
+  named = subst AreNamed (sym arenas) s.named;
 }
 
 module _ (old new : State) (r : OnlyRoom old new) where

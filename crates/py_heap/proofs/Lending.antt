@@ -17,7 +17,7 @@ use Rattle.heap_model.proofs.Members.{first_has_room}
 use Rattle.heap_model.proofs.Placed.{one_more_is_placed, last_one_is_placed}
 use Rattle.heap_model.proofs.Places.{place_there}
 use Rattle.arena_set.specs.declared.pool_id.PoolId.{PoolId}
-use Rattle.arena_set.specs.declared.started.Started.{Started}
+use Rattle.arena_set.specs.Started.{Started}
 use Rattle.arena_set.specs.Arena.{ArenaView, IsSound}
 use Rattle.arena_set.specs.Set.{SetView, pools_of, regions_of, loans_of, usable_of, dry_of, IsSet}
 use Rattle.arena_set.specs.Calls.{IsStarted, CanLend, Lends}
@@ -72,7 +72,7 @@ lent_of old new id piece full a s sound st room l =
       maker = l.maker;
       len = l.len;
       aligned = l.aligned;
-      sites = ap sites_of l.arena.arenas ∙ sites_same old.arenas id.arena l.a _ l.started.at.some l.started.at.there refl;
+      sites = ap sites_of l.arena.arenas ∙ sites_same old.arenas id.arena l.a l.b l.started.at.some l.started.at.there l.change.base;
       count = ap length l.arena.arenas ∙ length-set old.arenas (id.arena - 1) _;
     } in
     subst (λ (z : Started). LentOf (line_at id a z) piece full old new) once.1 (subst (λ (z : ArenaView). LentOf (line_at id z l.s) piece full old new) once.0 made)

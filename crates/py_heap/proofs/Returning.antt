@@ -23,7 +23,7 @@ use Rattle.heap_model.proofs.Returned.{dry_arena_gets_pool, usable_arena_is_put,
 use Rattle.heap_model.proofs.Counts.{mended_and_gone}
 use Rattle.heap_model.proofs.Members.{pool_is_listed}
 use Rattle.arena_set.specs.declared.pool_id.PoolId.{PoolId}
-use Rattle.arena_set.specs.declared.started.Started.{Started}
+use Rattle.arena_set.specs.Started.{Started}
 use Rattle.arena_set.specs.Arena.{ArenaView, pool_offset, after_give_pool, started_times}
 use Rattle.arena_set.specs.Set.{SetView, pool_line, pools_of, regions_of, loans_of, usable_of, dry_of, IsSet}
 use Rattle.arena_set.specs.Calls.{CanMend, CanGive, Mends, PoolsLeft, RegionsLeft, kept_after}

@@ -20,7 +20,7 @@ use Rattle.heap_model.specs.Kept.{has_number}
 use Rattle.heap_model.proofs.Pools.{used_here, listed_pool, number_self}
 use Rattle.heap_model.proofs.Numbered.{numbered_at, numbered_goes}
 use Rattle.arena_set.specs.declared.pool_id.PoolId.{PoolId}
-use Rattle.arena_set.specs.declared.started.Started.{Started}
+use Rattle.arena_set.specs.Started.{Started}
 use Rattle.arena_set.specs.Arena.{ArenaView}
 use Rattle.arena_set.specs.Set.{SetView, usable_line, usable_of}
 use Rattle.arena_set.specs.Calls.{IsStarted, HasStarted}

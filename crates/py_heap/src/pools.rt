@@ -20,7 +20,6 @@ use crate::counted::{end_one, first_usable, take_pool};
 use crate::marks::{Mark, Marks};
 use arena_set::{ArenaSet, Lent};
 use mem_base::{Counts, Grant};
-use pool_core::PlainPool;
 use raw_region::{Piece, Region};
 use sources::{ArenaSource, AskError};
 use std::alloc::{AllocError, Global};
@@ -117,20 +116,20 @@ impl Pools {
     }
 
     // The first block of a new pool of the first usable arena.
-    fn lend_new(&mut self, class: u8, plain: PlainPool) -> Piece
+    fn lend_new(&mut self, class: u8, arena: u32) -> Piece
         requires class { class < 32 }
         requires kept { IsKeptState (state_of self.old) }
         requires none { (class_at (state_of self.old) class).spots ≡ [] }
-        requires first { IsFirst self.old.set plain.arena }
-        requires plain { plain ≡ new_pool plain.arena class }
+        requires first { IsFirst self.old.set arena }
         requires room { HasRoomFor class (state_of self.old) }
         requires count { self.old.taken < 2 ^ 63 }
         ensures kept { IsKeptState (state_of self.new) }
         ensures serves { Serves class NotAsked (Some result) (heap_of (state_of self.old)) (heap_of (state_of self.new)) }
         ensures regions { regions_of self.new.set.arenas ≡ regions_of self.old.set.arenas }
     {
+        let _ = arena;
         let pool = take_pool(&mut self.set);
-        self.set.start(pool, plain, self.taken);
+        self.set.start(pool, class, self.taken);
         self.taken += 1;
         let Lent { piece, now_full: _ } = self.set.lend(pool);
         self.pooled += 1;
@@ -183,7 +182,6 @@ impl Pools {
     fn ask_arena<A: ArenaSource>(
         &mut self,
         class: u8,
-        plain: PlainPool,
         arenas: &mut A,
     ) -> Result<HeapGot, AllocError>
         requires class { class < 32 }
@@ -194,7 +192,6 @@ impl Pools {
         requires arena { HasRoomForArena (state_of self.old) }
         requires few { self.old.given + 1 < 2 ^ 32 }
         requires count { self.old.taken < 2 ^ 63 }
-        requires plain { plain ≡ new_pool (self.old.given + 1) class }
         requires asked { (A.seen arenas.old).asked < 2 ^ 63 }
         requires held { AllIn (regions_of self.old.set.arenas) (A.seen arenas.old).out }
         ensures kept { IsKeptState (state_of self.new) }
@@ -204,7 +201,7 @@ impl Pools {
         match arenas.ask() {
             Ok(region) => {
                 let total = self.add_arena(region);
-                let piece = self.lend_new(class, plain);
+                let piece = self.lend_new(class, self.given as u32);
                 Ok(HeapGot {
                     piece: Some(piece),
                     grant: Grant::Granted(total),
@@ -237,9 +234,8 @@ impl Pools {
         ensures served { IfOk result (λ got. IsServed class got.grant got.piece (heap_of (state_of self.old)) (heap_of (state_of self.new)) (A.seen arenas.old) (A.seen arenas.new)) }
         ensures failed { OnErr result (IsFailed (heap_of (state_of self.old)) (heap_of (state_of self.new)) (A.seen arenas.old) (A.seen arenas.new)) }
     {
-        let plain = PlainPool::new(self.alloc, self.given as u32 + 1, class)?;
         self.reserve_arena()?;
-        self.ask_arena(class, plain, arenas)
+        self.ask_arena(class, arenas)
     }
 
     // A block of class `class` in a new pool of the usable arena with that number.
@@ -255,8 +251,7 @@ impl Pools {
         ensures regions { OnOk result (regions_of self.new.set.arenas ≡ regions_of self.old.set.arenas) }
         ensures failed { OnErr result (self.new ≡ self.old) }
     {
-        let plain = PlainPool::new(self.alloc, arena, class)?;
-        Ok(self.lend_new(class, plain))
+        Ok(self.lend_new(class, arena))
     }
 
     // A block of class `class`, of which no pool has a free block.

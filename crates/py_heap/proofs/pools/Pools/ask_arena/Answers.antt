@@ -33,7 +33,7 @@ returns-in-Err-Refused-clause-served g c =
     served_refused (heap_of s) (heap_of s) (g.A.ArenaSource.seen c.args.arenas.now) (g.A.ArenaSource.seen c.ask.new.self) q.held e.asked e.plan e.window e.shape c.args.class
     (refused_serves s c.args.class q.kept q.class q.none q.dry) refl (e.refused ∙ ap (λ f. (g.A.ArenaSource.seen c.args.arenas.now).refused + refusals {T = RegionView} (Err f)) c.in-Err-Refused.field-0-is) e.none
 
-pub returns-clause-failed : goal.returns-clause-failed
-returns-clause-failed g c =
+pub returns-in-Err-OutOfMemory-clause-failed : goal.returns-in-Err-OutOfMemory-clause-failed
+returns-in-Err-OutOfMemory-clause-failed g c =
     let s = state_of c.args.self.now in let q = c.requires in let e = c.in-Err-OutOfMemory.ensures in
     failed_asked (heap_of s) (heap_of s) (g.A.ArenaSource.seen c.args.arenas.now) (g.A.ArenaSource.seen c.ask.new.self) q.held e.asked e.plan e.window e.shape refl (e.refused ∙ ap (λ f. (g.A.ArenaSource.seen c.args.arenas.now).refused + refusals {T = RegionView} (Err f)) c.in-Err-OutOfMemory.field-0-is) (λ planned. let wrong = e.planned planned in let is = c.in-Err-OutOfMemory.field-0-is in cc) e.none

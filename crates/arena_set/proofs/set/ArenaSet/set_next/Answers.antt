@@ -1,0 +1,61 @@
+use Rattle.std.proofs.Common.{◌≡◌, ◌-◌, get_or, Some, None, refl, sym, ap, subst, ◌∙◌, length-set, arith}
+use Rattle.arena_set.specs.Started.{Started}
+use Rattle.arena_set.specs.Arena.{ArenaView}
+use Rattle.arena_set.specs.Kept.{spare_of}
+use Rattle.arena_set.specs.Set.{SetView, usable_of, dry_of, loans_of, regions_of, pools_of}
+use Rattle.arena_set.specs.Calls.{IsAt, Links}
+use Rattle.arena_set.proofs.Flats.{inside, read}
+use Rattle.arena_set.proofs.Sets.{loans_same}
+use Rattle.arena_set.proofs.Changes.{Keeps, with_arena, number_is, change_keeps, change_links, links}
+use Rattle.arena_set.proofs.set.ArenaSet.set_next.Goals as goal
+
+module _ (c : goal.After-self-1) where
+  abbrev before : SetView
+  before = record { usable = c.self.inside.usable.nodes; arenas = c.self.inside.arenas.items; spare = spare_of c.self.inside.spare }
+
+  same : c.in-Some.arena ≡ c.requires.a
+  same = read before.arenas (c.args.pool.arena - 1) c.index_mut.result.now c.requires.a c.in-Some.arena (subst (λ v. IsAt v c.args.pool.arena c.requires.a) (sym c.self.view_is) c.requires.started.at).there c.index_mut.ensures.value c.in-Some.is
+
+  at : IsAt before c.args.pool.arena c.in-Some.arena
+  at =
+      let was : IsAt before c.args.pool.arena c.requires.a = subst (λ v. IsAt v c.args.pool.arena c.requires.a) (sym c.self.view_is) c.requires.started.at in
+      record { some = was.some; there = was.there ∙ ap Some (sym same) }
+
+  there : get_or c.in-Some.arena.pools c.args.pool.pool None ≡ Some c.requires.s
+  there = subst (λ (x : ArenaView). get_or x.pools c.args.pool.pool None ≡ Some c.requires.s) (sym same) c.requires.started.there
+
+  abbrev linked : Started
+  linked = record c.requires.s { next = c.args.place }
+
+  kept : Keeps before (with_arena before (c.args.pool.arena - 1) c.set_next.new.self)
+  kept = change_keeps before c.args.pool c.in-Some.arena c.set_next.new.self linked c.self.invariant.set at c.set_next.ensures.arena (c.set_next.ensures.after c.requires.s there) (inside c.in-Some.arena.pools c.args.pool.pool c.requires.s there) (let n = c.self.invariant.set.named (c.args.pool.arena - 1) c.in-Some.arena at.there c.args.pool.pool c.requires.s there in let h = at.some in omega arith)
+
+pub invariant_of-self : goal.invariant_of-self
+invariant_of-self c =
+    let i = c.self.invariant in let long = length-set c.self.inside.arenas.items (c.args.pool.arena - 1) (Some c.set_next.new.self) in
+    record { set = (kept c).set; few = omega (arith, i.few); table = omega (arith, i.table); chain = omega (arith, i.chain) }
+
+pub returns-clause-regions : goal.returns-clause-regions
+returns-clause-regions c = (kept c).regions ∙ ap (λ (v : SetView). regions_of v.arenas) c.self.view_is
+
+pub returns-clause-loans : goal.returns-clause-loans
+returns-clause-loans c =
+    loans_same (before c).arenas (c.args.pool.arena - 1) c.args.pool.arena c.in-Some.arena c.set_next.new.self (number_is (before c) c.args.pool.arena c.in-Some.arena (at c)) (at c).there c.set_next.ensures.loans ∙ ap (λ (v : SetView). loans_of v.arenas) c.self.view_is
+
+pub returns-clause-same : goal.returns-clause-same
+returns-clause-same c = ((kept c).same.0 ∙ ap usable_of c.self.view_is, (kept c).same.1 ∙ ap dry_of c.self.view_is)
+
+pub returns-clause-set : goal.returns-clause-set
+returns-clause-set c = (kept c).set
+
+pub returns-clause-pools : goal.returns-clause-pools
+returns-clause-pools c =
+    change_links (before c) c.args.pool c.in-Some.arena c.set_next.new.self (linked c) c.self.invariant.set (at c) c.set_next.ensures.arena (c.set_next.ensures.after c.requires.s (there c)) c.requires.s (there c) refl ∙ ap (λ (v : SetView). pools_of v.arenas) c.self.view_is
+
+pub returns-clause-links : goal.returns-clause-links
+returns-clause-links c a s is =
+    let was : IsAt (before c) c.args.pool.arena a = subst (λ v. IsAt v c.args.pool.arena a) (sym c.self.view_is) is.at in
+    let one : c.in-Some.arena ≡ a = read (before c).arenas (c.args.pool.arena - 1) c.index_mut.result.now a c.in-Some.arena was.there c.index_mut.ensures.value c.in-Some.is in
+    let here : get_or c.in-Some.arena.pools c.args.pool.pool None ≡ Some s = subst (λ (x : ArenaView). get_or x.pools c.args.pool.pool None ≡ Some s) (sym one) is.there in
+    subst (λ v. Links v (with_arena (before c) (c.args.pool.arena - 1) c.set_next.new.self) c.args.pool (record s { next = c.args.place })) c.self.view_is
+    (links (before c) c.args.pool c.in-Some.arena c.set_next.new.self (record s { next = c.args.place }) c.self.invariant.set (at c) c.set_next.ensures.arena (c.set_next.ensures.after s here) s here)
