@@ -1,13 +1,16 @@
 -- Reading line after line, as a loop does.
-use Rattle.std.proofs.Common.{◌≡◌, ℕ, ◌+◌, Bool, List, ◌∷◌, Result, Ok, sym, ap, ◌∙◌}
-use Rattle.std.specs.List.{slice_split}
+use Rattle.std.proofs.Common.{◌≡◌, ◌==◌, ℕ, ◌+◌, Bool, true, false, cond, List, ◌∷◌, Result, Ok, Err, refl, sym, ap, ◌∙◌}
+use Rattle.std.specs.List.{list_all, slice_split}
+use Rattle.trace_model.specs.Operands.{◌>>=◌, is_between}
+use Rattle.trace_model.specs.Spelling.{blank}
 use Rattle.trace_model.specs.Plain.{PlainTrace}
 use Rattle.trace_model.specs.declared.cause.TraceCause.{TraceCause}
-use Rattle.trace_model.specs.Reading.{Stop, then_lines, line_at, lines_at}
+use Rattle.trace_model.specs.Reading.{Stop, then_lines, line_at, lines_at, words_at}
 use Rattle.trace_model.proofs.CallerLemmas.{with_line}
 use Rattle.trace_reader.specs.declared.error.LineError.{LineError}
 use Rattle.trace_reader.specs.declared.error.LineError.TheVariants as line
-use Rattle.trace_reader.specs.Answers.{Fails, at_line, Stops}
+use Rattle.trace_reader.specs.Answers.{Fails, at_line, Stops, words_in}
+use Rattle.trace_model.specs.declared.cause.TraceCause.TheVariants.{BadByte}
 
 module _ (p : ℕ → Bool) (k : ℕ) (t : PlainTrace) (rest text after : List ℕ) (total : Result PlainTrace Stop) (parts : slice_split p rest ≡ text ∷ slice_split p after) (read_so_far : lines_at k t (slice_split p rest) ≡ total) where
   abbrev followed : Result PlainTrace TraceCause → Result PlainTrace Stop
@@ -22,3 +25,12 @@ module _ (p : ℕ → Bool) (k : ℕ) (t : PlainTrace) (rest text after : List �
   pub stops : (e : LineError) → Fails e (line_at t text) → Stops (at_line k e) total
   stops line.OutOfMemory read = tt
   stops (line.Wrong c) read = sym one_more ∙ ap followed read
+
+-- what a line comes to, by its words
+pub line_is : (t : PlainTrace) (line : List ℕ) → line_at t line ≡ (words_in line >>= words_at t)
+unfolding line_at
+line_is t line = by (list_all (is_between 32 126) line)
+  where
+    by : (b : Bool) → cond b (words_at t (slice_split (λ b. b == blank) line)) (Err BadByte) ≡ (cond b (Ok (slice_split (λ b. b == blank) line)) (Err BadByte) >>= words_at t)
+    by true = refl
+    by false = refl

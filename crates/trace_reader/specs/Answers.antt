@@ -1,6 +1,10 @@
 -- What the functions that read answer, beside what reading gives.
-use Rattle.std.specs.Prelude.{◌≡◌, ℕ, Result, Ok, Err}
+use Rattle.std.specs.Prelude.{◌≡◌, ◌==◌, ℕ, List, Result, Ok, Err, if◌then◌else◌}
+use Rattle.std.specs.List.{list_all, slice_split}
 use Rattle.trace_model.specs.declared.cause.TraceCause.{TraceCause}
+use Rattle.trace_model.specs.declared.cause.TraceCause.TheVariants.{BadByte}
+use Rattle.trace_model.specs.Operands.{is_between}
+use Rattle.trace_model.specs.Spelling.{blank}
 use Rattle.trace_model.specs.Reading.{Stop}
 use Rattle.trace_reader.specs.declared.error.LineError.{LineError}
 use Rattle.trace_reader.specs.declared.error.LineError.TheVariants as line
@@ -18,6 +22,10 @@ Fails (line.Wrong c) read = read ≡ Err c
 abbrev pub Gives : {X Y : Type 0} → (X → Y) → Result X LineError → Result Y TraceCause → Type 0
 Gives view (Ok x) read = read ≡ Ok (view x)
 Gives view (Err e) read = Fails e read
+
+-- the parts of a line between its blanks, where all its bytes are printable
+abbrev pub words_in : List ℕ → Result (List (List ℕ)) TraceCause
+words_in line = if list_all (is_between 32 126) line then Ok (slice_split (λ b. b == blank) line) else Err BadByte
 
 -- ---- of a whole trace
 

@@ -82,8 +82,9 @@ fn read_lines(alloc: Global, bytes: &[u8]) -> Result<Trace, TraceError>
     };
     let mut line: u64 = 2;
     let mut rest = bytes;
+    let mut words = Vec::new(alloc);
     while let Some((text, after)) = next_line(rest) {
-        match progress.line(alloc, text) {
+        match progress.line(alloc, text, &mut words) {
             Ok(()) => {}
             Err(error) => return Err(at(line, error)),
         }

@@ -2,8 +2,7 @@
 //! that print more than a reply are counted, so that no line is read twice.
 ghost use Rattle.std.specs.Prelude.{◌≡◌, ◌≢◌, ◌+◌, ◌<◌, ◌≤◌, ◌-◌, ◌^◌, length, map, IfOk, OnOk, IsSome, slice_get, Some, Ok, Err, false, if◌then◌else◌};
 ghost use Rattle.std.specs.Str.{bytes_eq};
-ghost use Rattle.std.specs.List.{list_all, list_any};
-ghost use Rattle.trace_model.specs.Operands.{is_between};
+ghost use Rattle.std.specs.List.{list_any};
 ghost use Rattle.trace_model.specs.Reading.{line_at, words_at, item_at, start_at, is_empty, is_track, opening};
 ghost use Rattle.trace_model.specs.declared.cause.TraceCause.TheVariants.{SameTrack, TooMany};
 ghost use Rattle.trace_model.specs.declared.keyword.Head.TheVariants as heads;
@@ -13,7 +12,7 @@ ghost use Rattle.trace_reader.specs.Progress.{so_far, IsKnownSoFar, is_report_op
 use crate::error::LineError;
 use crate::operands::{head, name};
 use crate::operations::{intern, read_op};
-use crate::words::words_of;
+use crate::words::cut;
 use mem_base::limits::{MAX_OPS, MAX_REPORTS};
 use mem_base::{List, Op, TextId, Texts};
 use std::alloc::{AllocError, Global};
@@ -65,12 +64,6 @@ fn another(first: &[u8], second: &[u8]) -> TraceCause
     }
 }
 
-fn is_plain(line: &[u8]) -> bool
-    ensures { result ≡ list_all (is_between 32 126) line.now }
-{
-    line.iter().all(|b| (32..=126).contains(b))
-}
-
 fn has_empty(words: &[&[u8]]) -> bool
     ensures { result ≡ list_any (λ w. is_empty w.now) words.now }
 {
@@ -91,18 +84,20 @@ impl Progress {
         })
     }
 
-    /// Takes one more line, without its end.
-    #[tactic(auto, unfolding(trace_model::specs::Reading::line_at))]
-    pub fn line(&mut self, alloc: Global, line: &[u8]) -> Result<(), LineError>
+    /// Takes one more line, without its end. Its words go into the buffer, in place of what it held.
+    #[tactic(auto, using(crate::proofs::LineSteps::line_is))]
+    pub fn line<'a>(
+        &mut self,
+        alloc: Global,
+        line: &'a [u8],
+        words: &mut Vec<&'a [u8]>,
+    ) -> Result<(), LineError>
         requires { IsKnownSoFar self.old.texts self.old.track self.old.ops self.old.reports }
         ensures known { OnOk result (IsKnownSoFar self.new.texts self.new.track self.new.ops self.new.reports) }
         ensures read { Gives (λ _. so_far self.new.texts self.new.track self.new.ops) result
             (line_at (so_far self.old.texts self.old.track self.old.ops) line.now) }
     {
-        if !is_plain(line) {
-            return Err(LineError::Wrong(TraceCause::BadByte));
-        }
-        let words = words_of(alloc, line)?;
+        cut(line, words)?;
         self.words(alloc, words.as_slice())
     }
 

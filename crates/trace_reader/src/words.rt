@@ -1,10 +1,14 @@
-//! Where lines end, and where words do.
-ghost use Rattle.std.specs.Prelude.{◌≡◌, ◌==◌, ◌<◌, ◌∷◌, [], length, map, IfOk, MatchOption};
+//! Where lines end, and where words do. A line is cut into its words in one pass over its bytes, into
+//! a buffer that is used again for each line, so a line of few words takes no memory.
+ghost use Rattle.std.specs.Prelude.{◌≡◌, ◌==◌, ◌<◌, ◌∷◌, [], length, map, MatchOption};
 ghost use Rattle.std.specs.List.{slice_split};
-ghost use Rattle.trace_model.specs.Spelling.{blank, line_end};
+ghost use Rattle.trace_model.specs.Operands.{is_between};
+ghost use Rattle.trace_model.specs.Spelling.{line_end};
+ghost use Rattle.trace_reader.specs.Answers.{Gives, words_in};
 
+use crate::error::LineError;
 use memchr::memchr;
-use std::alloc::{AllocError, Global};
+use trace_model::TraceCause;
 
 /// The first line, without its end, and what follows it.
 pub fn next_line(bytes: &[u8]) -> Option<(&[u8], &[u8])>
@@ -18,9 +22,28 @@ pub fn next_line(bytes: &[u8]) -> Option<(&[u8], &[u8])>
     }
 }
 
-/// The parts of a line between its blanks.
-pub fn words_of(alloc: Global, line: &[u8]) -> Result<Vec<&[u8]>, AllocError>
-    ensures { IfOk result (λ v. map (λ w. w.now) v.items ≡ slice_split (λ b. b == blank) line.now) }
+fn is_plain(byte: u8) -> bool
+    ensures { result ≡ is_between 32 126 byte }
 {
-    line.split(|b| *b == b' ').collect(alloc)
+    byte >= 32 && byte <= 126
+}
+
+/// The parts of a line between its blanks, in place of what the buffer held.
+pub fn cut<'a>(line: &'a [u8], words: &mut Vec<&'a [u8]>) -> Result<(), LineError>
+    ensures { Gives (λ _. map (λ w. w.now) words.new.items) result (words_in line.now) }
+{
+    words.clear();
+    let mut start = 0;
+    for at in 0..line.len() {
+        let byte = line[at];
+        if !is_plain(byte) {
+            return Err(LineError::Wrong(TraceCause::BadByte));
+        }
+        if byte == b' ' {
+            words.push(&line[start..at])?;
+            start = at + 1;
+        }
+    }
+    words.push(&line[start..])?;
+    Ok(())
 }

@@ -1,0 +1,48 @@
+use Rattle.std.proofs.Common.{◌≡◌, ◌&&◌, length, ◌++◌, ◌==◌, ◌+◌, Bool, true, ℕ, List, get_or, take, drop, map, sym, ap, ◌∙◌, arith, cond, Ok, Err}
+use Rattle.std.proofs.lemmas.Bool.{ne_eqb}
+use Rattle.std.proofs.lemmas.List.{take_all}
+use Rattle.trace_model.specs.declared.cause.TraceCause.TheVariants.{BadByte}
+use Rattle.std.proofs.lemmas.List.Folds.{list_all_more}
+use Rattle.std.specs.List.{list_all, slice_split}
+use Rattle.trace_model.specs.Operands.{is_between}
+use Rattle.trace_model.specs.Spelling.{blank}
+use Rattle.trace_reader.proofs.Parts.{one_more_word, last_word, uncut_more, pushed}
+use Rattle.trace_reader.proofs.words.cut.Goals as goal
+use Rattle.trace_reader.proofs.words.cut.Goals.{then-byte-eq32+in_ok-push, else-byte-eq32}
+
+pub loop-at-preserved : goal.loop-at-preserved
+loop-at-preserved c =
+    let h = c.loop-at.invariant in
+    let line = c.args.line.now in
+    let at = c.loop-at.at in
+    let p : ℕ → Bool = λ b. b == blank in
+    let fine : is_between 32 126 (get_or line at 0) ≡ true = sym c.is_plain.ensures ∙ c.if-not-is_plain.false in
+    let plain : list_all (is_between 32 126) (take (at + 1) line) ≡ true =
+    list_all_more (is_between 32 126) line at 0 c.loop-at-test.true ∙ ap (λ (b : Bool). b && is_between 32 126 (get_or line at 0)) h.plain ∙ fine
+    in
+    elim c.if-byte-eq32.branch [
+      | then-byte-eq32+in_ok-push w ↦ record {
+        parts = rw w.start-is (rw w.words-is (
+            ap (λ (ws : List (List ℕ)). ws ++ slice_split p (drop (at + 1) line)) (pushed (λ x. x.now) c.loop-at.words.items w.push.new.self.items _ w.in_ok-push.ensures.items)
+            ∙ one_more_word p line c.loop-at.start (map (λ x. x.now) c.loop-at.words.items) (slice_split p line) h.parts at h.begun c.loop-at-test.true h.whole (ap p w.if-byte-eq32.true)));
+        begun = omega (arith, w.start-is);
+        whole = λ k from below. absurd (omega (arith, w.start-is, from, below));
+        plain = plain;
+      }
+      | else-byte-eq32 w ↦ record {
+        parts = rw w.start-is (rw w.words-is h.parts);
+        begun = omega (arith, w.start-is, h.begun);
+        whole = rw w.start-is (uncut_more p line c.loop-at.start at h.whole (ne_eqb (get_or line at 0) 32 w.if-byte-eq32.false));
+        plain = plain;
+      }
+    ]
+
+pub returns : goal.returns
+returns c =
+    let h = c.loop-at.invariant in
+    let line = c.args.line.now in
+    let p : ℕ → Bool = λ b. b == blank in
+    let end : c.loop-at.at ≡ length line = omega (arith, c.loop-at-test.false, c.loop-at.auto.at-end) in
+    let plain : list_all (is_between 32 126) line ≡ true = ap (list_all (is_between 32 126)) (sym (take_all c.loop-at.at line (omega (arith, end)))) ∙ h.plain in
+    ap (λ (b : Bool). cond b (Ok (slice_split p line)) (Err BadByte)) plain ∙ ap Ok (sym (pushed (λ w. w.now) c.loop-at.words.items c.push-2.new.self.items _ c.in_ok-push-2.ensures.items
+    ∙ last_word p line c.loop-at.start (map (λ w. w.now) c.loop-at.words.items) (slice_split p line) h.parts (omega (arith, h.begun, end)) (λ k from below. h.whole k from (omega (arith, end, below)))))
