@@ -44,6 +44,10 @@ body_of v bytes = letter_byte v ∷ replicate 7 pad ++ bytes ++ replicate 8 pad
 abbrev pub fresh : Letter → ℕ → ℕ → Body
 fresh v n b = body_of v (replicate n b)
 
+-- the body of letter v with n bytes of data: those that it has, as many as stay, and behind them bytes b
+abbrev pub resized : Letter → ℕ → ℕ → Body → Body
+resized v n b body = body_of v (take n (data_of body) ++ replicate (n - size_of body) b)
+
 -- a body behind its size word, greatest byte first
 abbrev pub image_of : Body → List ℕ
 image_of body = to_be_bytes w64 (size_of body) ++ body
@@ -95,3 +99,7 @@ peeked body offset count = take count (drop (index_of offset) body)
 -- the body with these bytes from an offset on
 abbrev pub poked : Body → ℤ → List ℕ → Body
 poked body offset bytes = take (index_of offset) body ++ bytes ++ drop (index_of offset + length bytes) body
+
+-- the body with the data of another one over its own, as far as both go
+abbrev pub carried : Body → Body → Body
+carried other body = poked body (pos 0) (take (size_of body) (data_of other))

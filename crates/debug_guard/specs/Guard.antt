@@ -1,9 +1,10 @@
 -- A block inside a piece of memory.
-use Rattle.std.specs.Prelude.{◌≡◌, ℕ, ◌+◌, ◌<◌, ◌≤◌, ◌^◌, Bool, List, ◌++◌, length, take, drop, if◌then◌else◌}
+use Rattle.std.specs.Prelude.{◌≡◌, ℕ, ◌+◌, ◌-◌, ◌<◌, ◌≤◌, ◌^◌, Bool, List, ◌++◌, length, take, drop, replicate, if◌then◌else◌}
 use Rattle.std.specs.Int.{to_be_bytes, w64}
 use Rattle.raw_region.specs.declared.maker.Maker.{Maker}
 use Rattle.raw_region.specs.Region.{PieceView}
-use Rattle.block_model.specs.Block.{image_of, new_byte}
+use Rattle.mem_base.specs.declared.trace.Letter.{Letter}
+use Rattle.block_model.specs.Block.{body_of, image_of, new_byte}
 use Rattle.extents.specs.Extent.{Extent, piece_extent}
 
 -- a block inside a piece: where the piece lies, the maker of its region, the block's body, and the piece's bytes
@@ -29,6 +30,10 @@ size_word n = to_be_bytes w64 n
 -- what a byte of new data holds: 00 where the data is to be zero, else CD
 abbrev pub fill_of : Bool → ℕ
 fill_of zero = if zero then 0 else new_byte
+
+-- the body of letter v with n bytes of data, the first of which are so many of these and the rest `new`
+abbrev pub filled : Letter → ℕ → ℕ → ℕ → List ℕ → List ℕ
+filled v n kept new bytes = body_of v (take kept bytes ++ replicate (n - kept) new)
 
 -- the block with n bytes of data at the start of a piece
 abbrev pub guard_at : PieceView → ℕ → Guard

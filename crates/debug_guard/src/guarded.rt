@@ -1,6 +1,6 @@
 ghost use Rattle.std.specs.Prelude.{◌≡◌, ◌+◌, ◌-◌, ◌<◌, ◌≤◌, ◌++◌, ◌^◌, length, drop, replicate};
-ghost use Rattle.debug_guard.specs.Guard.{fill_of, guard_extent, piece_of, size_word, splice};
-ghost use Rattle.block_model.specs.Block.{fresh, dead_byte, size_of, image_of};
+ghost use Rattle.debug_guard.specs.Guard.{fill_of, filled, guard_extent, piece_of, size_word, splice};
+ghost use Rattle.block_model.specs.Block.{carried, dead_byte, fresh, image_of, new_byte, resized, size_of};
 ghost use Rattle.extents.specs.Extent.{piece_extent};
 
 use mem_base::Letter;
@@ -41,8 +41,22 @@ pub fn dress(mut piece: Piece, letter: Letter, n: u64, zero: bool) -> Guarded
     ensures rest { result.rest ≡ drop (n + 24) piece.bytes }
     ensures extent { guard_extent result ≡ piece_extent piece }
 {
-    write_block(piece.bytes_mut(), letter, n, fill_byte(zero));
+    write_block(piece.bytes_mut(), letter, n, 0, fill_byte(zero));
     Guarded { piece, size: n }
+}
+
+/// Gives the block another letter and another size where it lies: its data stays as far as n bytes
+/// go, what is added holds CD, and the size word, the letter and the pads are written anew.
+pub fn resize(g: &mut Guarded, letter: Letter, n: u64)
+    requires { n + 24 ≤ length (piece_of g.old).bytes }
+    ensures body { g.new.body ≡ resized letter n new_byte g.old.body }
+    ensures same { (g.new.place ≡ g.old.place) × (g.new.maker ≡ g.old.maker) }
+    ensures rest { g.new.rest ≡ drop (n + 24) (piece_of g.old).bytes }
+    ensures extent { guard_extent g.new ≡ guard_extent g.old }
+{
+    let kept = g.size.min(n);
+    write_block(g.piece.bytes_mut(), letter, n, kept as usize, NEW);
+    g.size = n;
 }
 
 // What a byte of new data holds.
@@ -52,15 +66,18 @@ fn fill_byte(zero: bool) -> u8
     if zero { 0 } else { NEW }
 }
 
-// A new block at the start of these bytes; those behind it stay.
-fn write_block(bytes: &mut [u8], letter: Letter, n: u64, new: u8)
-    requires { n + 24 ≤ length bytes.old }
-    ensures { bytes.new ≡ size_word n ++ fresh letter n new ++ drop (n + 24) bytes.old }
+// A block of n bytes of data at the start of these bytes, of which so many stay; what is behind it stays
+// too.
+fn write_block(bytes: &mut [u8], letter: Letter, n: u64, kept: usize, new: u8)
+    requires room { n + 24 ≤ length bytes.old }
+    requires fits { kept ≤ n }
+    ensures { bytes.new ≡
+        size_word n ++ filled letter n kept new (drop 16 bytes.old) ++ drop (n + 24) bytes.old }
 {
     let (block, _) = bytes.split_at_mut(n as usize + 24);
     let (word, body) = block.split_at_mut(8);
     write_size(word, n);
-    write_body(body, letter, new);
+    write_body(body, letter, kept, new);
 }
 
 #[tactic(auto, unfolding(crate::specs::Guard::size_word))]
@@ -72,16 +89,26 @@ fn write_size(word: &mut [u8], n: u64)
 }
 
 #[tactic(auto, unfolding(block_model::specs::Block::body_of))]
-fn write_body(body: &mut [u8], letter: Letter, new: u8)
-    requires { 16 ≤ length body.old }
-    ensures { body.new ≡ fresh letter (length body.old - 16) new }
+fn write_body(body: &mut [u8], letter: Letter, kept: usize, new: u8)
+    requires { kept + 16 ≤ length body.old }
+    ensures { body.new ≡ filled letter (length body.old - 16) kept new (drop 8 body.old) }
 {
     let (head, rest) = body.split_at_mut(8);
     let (data, tail) = rest.split_at_mut(rest.len() - 8);
     head.fill(PAD);
     head[0] = letter.byte();
-    data.fill(new);
+    data[kept..].fill(new);
     tail.fill(PAD);
+}
+
+/// Copies the data of a block over that of another one, as far as both go.
+pub fn carry(from: &Guarded, to: &mut Guarded)
+    ensures body { to.new ≡ record to.old { body = carried from.now.body to.old.body } }
+    ensures size { length to.new.body ≡ length to.old.body }
+    ensures extent { guard_extent to.new ≡ guard_extent to.old }
+{
+    let count = from.size.min(to.size) as usize;
+    to.write(8, &from.body()[8..count + 8]);
 }
 
 /// Fills the piece with DD and gives it back.

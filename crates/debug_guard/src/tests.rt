@@ -100,3 +100,54 @@ fn kills_the_whole_piece(rt: HostRuntime) -> Result<(), Fail> {
     end(region, dead);
     Ok(())
 }
+
+#[test]
+fn grows_and_shrinks_where_it_lies(rt: HostRuntime) -> Result<(), Fail> {
+    let (region, room) = lend(rt.alloc(), 30)?;
+    let mut g = dress(room, Letter::Mem, 4, false);
+    let poked = poke(&mut g, 0, b"abcd");
+    assert!(rt; poked);
+    resize(&mut g, Letter::Obj, 6);
+    let grown = [
+        0, 0, 0, 0, 0, 0, 0, 6, 0x6f, 0xfd, 0xfd, 0xfd, 0xfd, 0xfd, 0xfd, 0xfd, 0x61, 0x62, 0x63,
+        0x64, 0xcd, 0xcd, 0xfd, 0xfd, 0xfd, 0xfd, 0xfd, 0xfd, 0xfd, 0xfd,
+    ];
+    assert!(rt; piece(&g).bytes() == grown.as_slice());
+    assert_eq!(rt; check(&g, Letter::Obj), None);
+    resize(&mut g, Letter::Mem, 3);
+    assert_eq!(rt; size(&g), 3);
+    let shrunk = [
+        0x6d, 0xfd, 0xfd, 0xfd, 0xfd, 0xfd, 0xfd, 0xfd, 0x61, 0x62, 0x63, 0xfd, 0xfd, 0xfd, 0xfd,
+        0xfd, 0xfd, 0xfd, 0xfd,
+    ];
+    assert!(rt; peek(&g, -8, 19) == Some(shrunk.as_slice()));
+    end(region, kill(g));
+    Ok(())
+}
+
+#[test]
+fn carries_as_far_as_both_blocks_go(rt: HostRuntime) -> Result<(), Fail> {
+    let (first, short) = lend(rt.alloc(), 26)?;
+    let (second, long) = match lend(rt.alloc(), 28) {
+        Ok(lent) => lent,
+        Err(error) => {
+            end(first, short);
+            return Err(error.into());
+        }
+    };
+    let mut a = dress(short, Letter::Mem, 2, true);
+    let mut b = dress(long, Letter::Mem, 4, false);
+    carry(&a, &mut b);
+    let shown = peek(&b, 0, 12)
+        == Some([
+            0, 0, 0xcd, 0xcd, 0xfd, 0xfd, 0xfd, 0xfd, 0xfd, 0xfd, 0xfd, 0xfd,
+        ]
+        .as_slice());
+    let poked = poke(&mut b, 0, b"abcd");
+    carry(&b, &mut a);
+    let back = peek(&a, 0, 10) == Some(b"ab\xfd\xfd\xfd\xfd\xfd\xfd\xfd\xfd".as_slice());
+    end(second, kill(b));
+    end(first, kill(a));
+    assert!(rt; shown && poked && back);
+    Ok(())
+}
