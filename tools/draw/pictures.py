@@ -61,19 +61,16 @@ def plural(count, what):
 # ---- The heap's shape
 
 
-def draw_pool(x, y, pool, tip):
-    """A square that is filled from below by the part of its blocks that are live."""
-    side = CELL - 1
-    size_class, live = pool
-    ink = colour_of(size_class)
-    high = max(1, round(side * live / capacity_of(size_class)))
-    outline = f' stroke="{ink}" stroke-width="0.6"'
-    return (
-        f"<g><title>{html.escape(tip)}</title>"
-        + box(x + 0.3, y + 0.3, side - 0.6, side - 0.6, "white", outline)
-        + box(x, y + side - high, side, high, ink)
-        + "</g>"
-    )
+def draw_pools(size_class, pools):
+    """Squares of one class, as (x, y, live blocks, tip): each is filled from below as far as its blocks are live."""
+    ink, side = colour_of(size_class), CELL - 1
+    out, filled = [f'<g fill="white" stroke="{ink}" stroke-width="0.6">'], []
+    for x, y, live, tip in pools:
+        high = max(1, round(side * live / capacity_of(size_class)))
+        out.append(f'<path d="M{x}.3 {y}.3h{side - 0.6}v{side - 0.6}h{0.6 - side}z"><title>{html.escape(tip)}</title></path>')
+        filled.append(f"M{x} {y + side - high}h{side}v{high}h-{side}z")
+    out.append(f'</g><path pointer-events="none" fill="{ink}" d="{"".join(filled)}"/>')
+    return "".join(out)
 
 
 def draw_free(corners):
@@ -82,8 +79,7 @@ def draw_free(corners):
     return f'<path fill="{FREE}" d="{"".join(f"M{x} {y}h{side}v{side}h-{side}z" for x, y in corners)}"/>'
 
 
-def tip_of(arena, place, pool):
-    size_class, live = pool
+def tip_of(arena, place, size_class, live):
     return f"arena {arena}, pool {place}: blocks of {size_of(size_class)} bytes, {live} of {capacity_of(size_class)}"
 
 
@@ -94,18 +90,20 @@ def caption_of(moment):
 
 def draw_moment(moment, y):
     """The arenas of one moment as rows, and the height that they take."""
-    out, free = [text(LEFT - 20, y, 12, caption_of(moment))], []
+    out, free, taken = [text(LEFT - 20, y, 12, caption_of(moment))], [], {}
     top = y + 8
     for number in sorted(moment.arenas)[:MOST_ROWS]:
         out.append(text(LEFT - 5, top + CELL - 2, 9, str(number), FAINT, "end"))
         for place, pool in enumerate(moment.arenas[number]):
             x = LEFT + place * CELL
             if pool:
-                out.append(draw_pool(x, top, pool, tip_of(number, place, pool)))
+                size_class, live = pool
+                taken.setdefault(size_class, []).append((x, top, live, tip_of(number, place, size_class, live)))
             else:
                 free.append((x, top))
         top += CELL
     out.append(draw_free(free))
+    out += [draw_pools(size_class, pools) for size_class, pools in sorted(taken.items())]
     hidden = len(moment.arenas) - MOST_ROWS
     if hidden > 0:
         out.append(text(LEFT, top + 10, 9, f"and {plural(hidden, 'more arena')}", FAINT))
@@ -124,7 +122,7 @@ def legend(y):
             out.append(text(x + 6, y + 23, 9, str(size_of(size_class)), FAINT, "middle"))
     x = first + CLASSES * 13 + 14
     out += [draw_free([(x, y + 1)]), text(x + 15, y + 10, 10, "free pool", FAINT)]
-    out += [draw_pool(x + 72, y + 1, (20, 30), "half of the blocks are live"), text(x + 87, y + 10, 10, "live blocks", FAINT)]
+    out += [draw_pools(20, [(x + 72, y + 1, 24, "half of its blocks are live")]), text(x + 87, y + 10, 10, "live blocks", FAINT)]
     return out
 
 

@@ -144,8 +144,10 @@ static Block *blocks;
 static uint64_t live_blocks;
 static uint32_t last_id;
 
+/* The blocks of 1 KiB lie side by side in the table too, since those that are near each other are used at about the same time. */
 static inline uint32_t home_of(uintptr_t address) {
-    return (uint32_t)(((uint64_t)address * 0x9E3779B97F4A7C15ull) >> (64 - TABLE_BITS));
+    uint64_t group = ((uint64_t)(address >> 10) * 0x9E3779B97F4A7C15ull) >> (64 - TABLE_BITS + 6);
+    return (uint32_t)(group << 6 | (address >> 4 & 63));
 }
 
 static Block *find_block(uintptr_t address) {
@@ -207,7 +209,7 @@ typedef struct {
 } Thread;
 
 static pthread_key_t thread_key;
-static __thread Thread *this_thread;
+static __thread Thread *this_thread __attribute__((tls_model("initial-exec")));
 
 static void end_thread(void *data) {
     pthread_mutex_lock(&mutex);

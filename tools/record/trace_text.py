@@ -14,7 +14,7 @@ MOST_LINE = 2_147_483_647
 REPORTS = ("snapshot", "keep", "stats", "compare", "dump", "heap", "where")
 
 NAME = "[A-Za-z0-9_]{1,32}"
-GROUPING = r"(filename plain|filename cumulative|lineno plain|lineno cumulative|traceback plain) [1-9][0-9]{0,5}"
+GROUPING = r"(filename plain|filename cumulative|lineno plain|lineno cumulative|traceback plain) (1000000|[1-9][0-9]{0,5})"
 
 # What a program may ask for in its own trace by pymhooks.mark.
 MARKS = [

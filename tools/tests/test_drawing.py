@@ -97,7 +97,7 @@ class Pictures(unittest.TestCase):
         moments = read_story(example("arena_back")).moments
         drawn = draw_map(moments)
         live = sum(pool is not None for moment in moments for pools in moment.arenas.values() for pool in pools)
-        self.assertEqual(drawn.count("<g><title>arena "), live)
+        self.assertEqual(drawn.count("<title>arena "), live)
         self.assertIn("event 1,987: 1,985 blocks in pools, 0 in raw memory, 2 arenas", drawn)
         self.assertIn("<title>arena 2, pool 0: blocks of 512 bytes, 1 of 31</title>", drawn)
 

@@ -1,4 +1,5 @@
 """Programs that are recorded and replayed. These tests need Python's headers and a compiler, and the program."""
+import itertools
 import os
 import re
 import subprocess
@@ -62,6 +63,40 @@ ODD_PROGRAMS = {
         0,
     ),
 }
+# tracemalloc begins while the imports are done, so it lies below the hooks. The objects are such as no free list keeps, since
+# tracemalloc gives a block of a free list to the line that uses it again, which no allocator sees.
+WATCH = """
+import tracemalloc
+tracemalloc.start()
+class Node:
+    __slots__ = ("name", "data", "next")
+"""
+BESIDE_TRACEMALLOC = """
+import pymhooks, tracemalloc
+from watch import Node
+def build(count):
+    head = None
+    for k in range(count):
+        node = Node()
+        node.name = "node-%d" % k
+        node.data = b"x" * (40 + k % 600)
+        node.next = head
+        head = node
+    return head
+def trim(head):
+    while head and head.next:
+        head.next = head.next.next
+        head = head.next
+first = build(3000)
+trim(first)
+second = build(500)
+pymhooks.mark("snapshot s")
+pymhooks.mark("stats s lineno plain 1000000")
+snapshot = tracemalloc.take_snapshot()
+for group in snapshot.statistics("lineno"):
+    frame = group.traceback[0]
+    print("group", group.size, group.count, "%s:%d" % (frame.filename, frame.lineno))
+"""
 THREADS = """
 import sys, threading
 sys.setswitchinterval(1e-4)
@@ -81,6 +116,8 @@ def record(script, *options, status=0):
         path, trace = os.path.join(folder, "script.py"), os.path.join(folder, "trace")
         with open(path, "w") as file:
             file.write(script)
+        with open(os.path.join(folder, "watch.py"), "w") as file:
+            file.write(WATCH)
         command = [here.RECORD, "--python", sys.executable, "--out", trace, *options, path]
         ran = subprocess.run(command, capture_output=True, text=True)
         if ran.returncode:
@@ -182,6 +219,17 @@ class Recorded(unittest.TestCase):
         self.assertEqual(status, 0)
         self.assertEqual(trace.count("\ntrack "), 4)
         self.assertNotRegex(report, " = (busy|held|not_held|absent)\n")
+
+    @needs(TRACES and GROWS, "statistics beside tracemalloc's own: the program does not trace")
+    def test_statistics_are_those_of_tracemalloc_in_the_same_process(self):
+        trace, printed = record(BESIDE_TRACEMALLOC, "--frames", "1")
+        status, report = replay(trace)
+        self.assertEqual(status, 0)
+        groups = report[report.index(" stats s lineno") :].split("\n")[1:]
+        ours = {group for group in itertools.takewhile(lambda line: line.startswith("  "), groups) if "/script.py:" in group}
+        theirs = {f"  {group}" for group in re.findall(r"^group (.*/script\.py:\d+)$", printed, re.M)}
+        self.assertEqual(ours, theirs)
+        self.assertGreater(sum(int(group.split()[0]) for group in ours), 700_000)
 
     def test_a_kept_log_is_converted_again(self):
         with tempfile.TemporaryDirectory() as folder:
