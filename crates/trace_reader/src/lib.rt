@@ -15,6 +15,3 @@ mod words;
 pub use error::TraceError;
 pub use lines::read_trace;
 pub use trace_model::TraceCause;
-
-#[cfg(test)]
-mod tests;

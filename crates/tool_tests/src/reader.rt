@@ -1,0 +1,150 @@
+//! What the reader makes of inputs. A row of a table has an input, in which a slash stands for the end
+//! of a line, an arrow, and what comes of it: the last operation, or the faulty line and its fault.
+
+use std::alloc::{AllocError, Global};
+use std::test::Fail;
+use trace_reader::read_trace;
+
+// Whole inputs.
+const INPUTS: &str = "\
+/ => line 1: BadHeader
+ => line 1: BadHeader
+pymtrace 2/ => line 1: BadHeader
+xxxxxxxxxxxxxxxx => line 1: BadEnd
+pymtrace 1/ => nothing
+pymtrace 1/acquire/ => line 2: Misplaced
+pymtrace 1/acquire => line 2: BadEnd
+pymtrace 1/track t => line 2: BadEnd
+pymtrace 1/track t/ => nothing
+pymtrace 1/track t/acquire/malloc m x 007/acquire x/ => line 4: BadNumber";
+
+// Lines after the header and the line `track t`. The table of names numbers them as they come:
+// `<unknown>` is 0 and `t` is 1.
+const LINES: &str = "\
+acquire/ => Acquire
+release/ => Release
+malloc r a 0/ => Malloc(Raw, TextId(2), 0)
+malloc m t 18446744073709551615/ => Malloc(Mem, TextId(1), 18446744073709551615)
+malloc r a 0/malloc o C_9 16/ => Malloc(Obj, TextId(3), 16)
+malloc r a 0/malloc o C_9 16/free m a/ => Free(Mem, TextId(2))
+poke a -8 ff/ => Poke(TextId(2), -8, List { items: [255] })
+poke a 9223372036854775807 00a9/ => Poke(TextId(2), 9223372036854775807, List { items: [0, 169] })
+peek C_9 -1 1024/ => Peek(TextId(2), -1, 1024)
+heap/ => Heap
+refuse arena 3/ => Refuse(Arena, 3)
+refuse raw 1/ => Refuse(Raw, 1)
+refuse raw 1000000/ => Refuse(Raw, 1000000)
+malloc m x 007/ => line 3: BadNumber
+malloc m x 18446744073709551616/ => line 3: BadNumber
+malloc m x/ => line 3: BadWords
+malloc m  x/ => line 3: BadWords
+mall m x 1/ => line 3: UnknownWord
+ malloc m x 1/ => line 3: UnknownWord
+malloc q x 1/ => line 3: UnknownWord
+malloc m x! 1/ => line 3: BadName
+malloc m x\t1/ => line 3: BadByte
+malloc m x \x7f/ => line 3: BadByte
+stop => line 3: BadEnd
+poke x -9 00/ => line 3: BadRange
+poke x 9223372036854775808 00/ => line 3: BadRange
+poke x -9223372036854775808 00/ => line 3: BadRange
+poke x -0 00/ => line 3: BadNumber
+poke x - 00/ => line 3: BadNumber
+poke x -18446744073709551616 00/ => line 3: BadNumber
+poke x 0 0/ => line 3: BadHex
+poke x 0 0A/ => line 3: BadHex
+poke x -8 6d/ => line 3: ForgedLetter
+peek x 0 1025/ => line 3: BadRange
+refuse pool 1/ => line 3: UnknownWord
+refuse raw 0/ => line 3: BadRange
+refuse raw 1000001/ => line 3: BadRange
+refuse raw 01/ => line 3: BadNumber
+refuse raw/ => line 3: BadWords
+refuse arena 01/ => line 3: BadNumber
+heap x/ => line 3: BadWords
+track t/ => line 3: SameTrack
+track u/ => line 3: TooMany";
+
+// Both sides of each limit: how a line begins, a part of it or whole lines, how often that comes, and
+// what follows.
+const LIMITS: &str = "\
+poke x 0 |00|1024|/ => read
+poke x 0 |00|1025|/ => line 3: BadRange
+|acquire/|262144| => read
+|acquire/|262145| => line 262147: TooMany
+|heap/|1024| => read
+|heap/|1025| => line 1027: TooMany
+malloc r |x|32| 1/ => read
+malloc r |x|33| 1/ => line 3: BadName";
+
+const HEAD: &str = "pymtrace 1/track t/";
+
+// What comes of an input.
+fn answer(alloc: Global, input: &str) -> Result<String, AllocError> {
+    let trace = match read_trace(alloc, input.as_bytes()) {
+        Ok(trace) => trace,
+        Err(error) => return format!(in alloc; "{error}"),
+    };
+    match trace
+        .tracks
+        .as_slice()
+        .last()
+        .and_then(|track| track.ops.as_slice().last())
+    {
+        Some(op) => format!(in alloc; "{op:?}"),
+        None => String::from_str(alloc, "nothing"),
+    }
+}
+
+// Adds a text whose slashes stand for ends of lines.
+fn push_lines(input: &mut String, text: &str) -> Result<(), AllocError> {
+    for c in text.chars() {
+        input.push(if c == '/' { '\n' } else { c })?;
+    }
+    Ok(())
+}
+
+#[test]
+fn an_input_is_read_or_its_first_fault_told(rt: HostRuntime) -> Result<(), Fail> {
+    for (head, table) in [("", INPUTS), (HEAD, LINES)] {
+        for row in table.lines() {
+            let (text, wanted) = row.split_once(" => ").unwrap_or((row, ""));
+            let mut input = String::new(rt.alloc());
+            push_lines(&mut input, head)?;
+            push_lines(&mut input, text)?;
+            let found = answer(rt.alloc(), input.as_str())?;
+            assert_eq!(rt; found.as_str(), wanted, "at {row:?}");
+        }
+    }
+    Ok(())
+}
+
+// Adds the lines of a row of the table of limits.
+fn push_repeated(input: &mut String, row: &str) -> Result<(), AllocError> {
+    let mut parts = row.split('|');
+    push_lines(input, parts.next().unwrap_or(""))?;
+    let part = parts.next().unwrap_or("");
+    let times = parts.next().unwrap_or("").parse::<u32>().unwrap_or(0);
+    for _ in 0..times {
+        push_lines(input, part)?;
+    }
+    push_lines(input, parts.next().unwrap_or(""))
+}
+
+#[test]
+fn a_limit_is_taken_and_one_more_refused(rt: HostRuntime) -> Result<(), Fail> {
+    for row in LIMITS.lines() {
+        let (text, wanted) = row.split_once(" => ").unwrap_or((row, ""));
+        let mut input = String::new(rt.alloc());
+        push_lines(&mut input, HEAD)?;
+        push_repeated(&mut input, text)?;
+        match read_trace(rt.alloc(), input.as_bytes()) {
+            Ok(_) => assert_eq!(rt; wanted, "read", "at {row:?}"),
+            Err(error) => {
+                let told = format!(in rt.alloc(); "{error}")?;
+                assert_eq!(rt; told.as_str(), wanted, "at {row:?}");
+            }
+        }
+    }
+    Ok(())
+}
