@@ -1,13 +1,13 @@
 -- What each call finds and leaves, over the links, the front and the chain that contracts see.
-use Rattle.std.proofs.Common.{◌≡◌, ℕ, zero, suc, ◌+◌, ◌<◌, ◌≤◌, List, [], ◌∷◌, ◌++◌, length, set, take, replicate, Option, Some, None, Contains, refl, sym, ap, subst, ◌∙◌, arith, append_assoc}
+use Rattle.std.proofs.Common.{◌≡◌, ℕ, zero, suc, ◌+◌, ◌-◌, ◌<◌, ◌≤◌, List, [], ◌∷◌, ◌++◌, length, replicate, Option, Some, None, Result, Ok, Err, OnOk, OnErr, Contains, refl, sym, ap, subst, ◌∙◌, arith, append_assoc}
 use Rattle.links.proofs.LinkLemmas.{Agrees-same}
 use Rattle.std.specs.Option.{ForSome}
-use Rattle.links.specs.declared.links.Links.{Links}
+use Rattle.links.specs.declared.table.Links.{Links}
 use Rattle.links.specs.Nodes.{ChainView, times, first_of, last_of, count_of, IsChain, IsNext, IsPrev, IsGap, CountsNeighbours}
-use Rattle.links.specs.Links.{links_at, next_in, prev_in, present, presences, nodes_of, IsLinked, relinked, front_after}
+use Rattle.links.specs.Links.{links_at, next_in, prev_in, present, presences, nodes_of, IsLinked, taken_out, front_after}
 use Rattle.links.proofs.NodeLemmas.{split, times-split, times-out, last_of-differs, first_of-differs, last_or-append, times-append}
-use Rattle.links.proofs.LinkLemmas.{inside_present, present_le, nodes_of-linked, SameNodes-relinked}
-use Rattle.links.proofs.Edits.{put_in, taken_out, links-split, put_linked, taken_linked}
+use Rattle.links.proofs.LinkLemmas.{inside_present, present_le, nodes_of-linked}
+use Rattle.links.proofs.Edits.{put_in, links-split, put_linked, taken_linked}
 
 -- the links and the front stand for the chain v
 pub record Open (all : List (Option Links)) (front : Option ℕ) (v : ChainView) : Type 0 where
@@ -64,6 +64,9 @@ after_inside all front xs before after s gap i e =
     let t : times i xs ≡ times i gap.front + times i gap.rest = ap (times i) gap.all ∙ times-append i gap.front gap.rest in
     inside_present all i (let o = s.once i in omega arith)
 
+pub front_inside : (all : List (Option Links)) (front : Option ℕ) (xs : List ℕ) → IsLinked all front xs → ForSome front (λ i. i < length all)
+front_inside all front xs s = after_inside all front xs None front s (record { front = []; rest = xs; all = refl; last = refl; first = s.begins })
+
 -- ---- put
 
 pub put_links : (all : List (Option Links)) (front : Option ℕ) (xs : List ℕ) (before after : Option ℕ) (x : ℕ) → IsLinked all front xs → x < length all → (Contains xs x → ⊥)
@@ -107,20 +110,6 @@ taken_links all front xs before after x s b c some now e f ys zs a =
     let out = taken_linked all front ys x zs (linked_as all front xs (ys ++ x ∷ zs) a s) in
     rw (e, f, p, n) out
 
--- ---- what a slice that was lent leaves in the vector
-
-pub lent : {X : Type 0} (n : ℕ) (xs ys : List X) → length xs ≡ n → take n (xs ++ ys) ≡ xs
-lent zero [] ys e = refl
-lent zero (x ∷ xs) ys e = absurd (omega arith)
-lent (suc n) [] ys e = absurd (omega arith)
-lent (suc n) (x ∷ xs) ys e = ap (λ zs. x ∷ zs) (lent n xs ys (omega arith))
-
-pub stored : (n : ℕ) (all lent_out new rest : List (Option Links)) (x : ℕ) (entry : Option Links) (p v q w : Option ℕ) → new ≡ relinked lent_out p v q w → lent_out ≡ set all x entry → length lent_out ≡ n
-    → take n (new ++ rest) ≡ relinked (set all x entry) p v q w
-stored n all lent_out new rest x entry p v q w e f l =
-    let long : length new ≡ n = ap length e ∙ (SameNodes-relinked lent_out p v q w).room ∙ l in
-    lent n new rest long ∙ e ∙ ap (λ a. relinked a p v q w) f
-
 -- ---- more room
 
 at_none : (k x : ℕ) → links_at (replicate k None) x ≡ None
@@ -152,12 +141,17 @@ more_linked all front xs k s = record {
 pub none_linked : (k : ℕ) → IsLinked (replicate k None) None []
 none_linked k = record { begins = refl; agrees = tt; once = λ x. ap present (sym (at_none k x)); counted = presences-none k }
 
-take_whole : {X : Type 0} (n : ℕ) (xs : List X) → length xs ≤ n → take n xs ≡ xs
-take_whole zero [] h = refl
-take_whole zero (x ∷ xs) h = absurd (omega arith)
-take_whole (suc n) [] h = refl
-take_whole (suc n) (x ∷ xs) h = ap (λ zs. x ∷ zs) (take_whole n xs (omega arith))
+-- what is left of some links where the room was to grow
+module _ {E : Type 0} (all some : List (Option Links)) (front : Option ℕ) (xs : List ℕ) (n : ℕ) (result : Result Unit E)
+    (ok : OnOk result (some ≡ all ++ replicate (n - length all) None)) (err : OnErr result (some ≡ all)) (s : IsLinked all front xs) where
+  grown : IsLinked some front xs
+  grown = either_way result ok err where
+    either_way : (r : Result Unit E) → OnOk r (some ≡ all ++ replicate (n - length all) None) → OnErr r (some ≡ all) → IsLinked some front xs
+    either_way (Ok x) a b = subst (λ l. IsLinked l front xs) (sym a) (more_linked all front xs (n - length all) s)
+    either_way (Err e) a b = subst (λ l. IsLinked l front xs) (sym b) s
 
--- what a vector of links holds after it grew
-pub resized_linked : (some all : List (Option Links)) (front : Option ℕ) (xs : List ℕ) (n k : ℕ) → some ≡ take n all ++ replicate k None → length all ≤ n → IsLinked all front xs → IsLinked some front xs
-resized_linked some all front xs n k e h s = rw (e, take_whole n all h) (more_linked all front xs k s)
+  pub reserved_seen : IsLinked some front (nodes_of some front)
+  reserved_seen = seen some front xs grown
+
+  pub reserved_nodes : nodes_of some front ≡ xs
+  reserved_nodes = nodes_of-linked some front xs grown

@@ -2,9 +2,9 @@
 use Rattle.std.proofs.Common.{◌≡◌, ℕ, ◌+◌, ◌<◌, ◌≤◌, inl, inr, List, [], ◌∷◌, ◌++◌, length, set, Option, Some, None, refl, sym, ap, subst, ◌∙◌, arith, length-append}
 use Rattle.std.proofs.lemmas.List.{get_or-set_same, get_or-set_other}
 use Rattle.std.proofs.lemmas.Bool.Decides.{eqb_tells}
-use Rattle.links.specs.declared.links.Links.{Links}
+use Rattle.links.specs.declared.table.Links.{Links}
 use Rattle.links.specs.Nodes.{times, first_or, last_or, first_of, last_of}
-use Rattle.links.specs.Links.{links_at, present, Agrees, IsLinked, relinked, front_after}
+use Rattle.links.specs.Links.{links_at, present, Agrees, IsLinked, relinked, taken_out, front_after}
 use Rattle.links.proofs.NodeLemmas.{times-append, times-here, first_or-append}
 use Rattle.links.proofs.LinkLemmas.{inside, Agrees-other, Agrees-front, Agrees-rest, Agrees-append, presences-set, present_le, SameNodes-relinked, relinked_rejoins}
 
@@ -19,10 +19,6 @@ begins_with front (x ∷ xs) ys v e = stays front (Some x) x xs v e
 -- node x between two neighbours
 abbrev pub put_in : List (Option Links) → Option ℕ → ℕ → Option ℕ → List (Option Links)
 put_in all before x after = relinked (set all x (Some (record { prev = before; next = after }))) before (Some x) after (Some x)
-
--- no node x between two neighbours
-abbrev pub taken_out : List (Option Links) → Option ℕ → ℕ → Option ℕ → List (Option Links)
-taken_out all before x after = relinked (set all x None) before after after before
 
 pub links-split : (all : List (Option Links)) (front : Option ℕ) (xs : List ℕ) (x : ℕ) (ys : List ℕ) → IsLinked all front (xs ++ x ∷ ys) → links_at all x ≡ Some (record { prev = last_of xs; next = first_of ys })
 links-split all front xs x ys s = (Agrees-rest all None xs (x ∷ ys) None s.agrees).0

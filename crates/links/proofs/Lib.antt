@@ -1,4 +1,6 @@
+pub mod CallerLemmas
 pub mod NodeLemmas
-pub mod LinkLemmas
-pub mod Edits
-pub mod Calls
+mod LinkLemmas
+mod Edits
+mod Calls
+mod Puts

@@ -2,7 +2,7 @@
 use Rattle.std.proofs.Common.{◌≡◌, ◌≢◌, ℕ, zero, suc, ◌+◌, ◌<◌, ◌≤◌, inl, inr, List, [], ◌∷◌, ◌++◌, length, set, Option, Some, None, refl, sym, ap, arith}
 use Rattle.std.proofs.lemmas.List.{get_or-set_same, get_or-set_other, length-set}
 use Rattle.std.proofs.lemmas.Bool.Decides.{eqb_tells}
-use Rattle.links.specs.declared.links.Links.{Links}
+use Rattle.links.specs.declared.table.Links.{Links}
 use Rattle.links.specs.Nodes.{times, first_or, last_or, first_of, last_of}
 use Rattle.links.specs.Links.{links_at, present, presences, walk, nodes_of, Agrees, IsLinked, with_next, with_prev, next_set, prev_set, relinked}
 use Rattle.links.proofs.NodeLemmas.{differs, first_or-append, last_or-differs, last_of-differs, first_of-differs}

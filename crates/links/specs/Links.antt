@@ -1,6 +1,6 @@
 -- How a vector of links stands for a chain.
 use Rattle.std.specs.Prelude.{◌≡◌, ℕ, zero, suc, ◌+◌, List, [], ◌∷◌, length, get_or, set, Option, Some, None}
-use Rattle.links.specs.declared.links.Links.{Links}
+use Rattle.links.specs.declared.table.Links.{Links}
 use Rattle.links.specs.Nodes.{times, first_or, first_of}
 
 -- the links of node x, if it is in the chain
@@ -70,6 +70,22 @@ prev_set all (Some at) prev = set all at (with_prev (links_at all at) prev)
 -- `next` stands behind `before`, and `prev` before `after`
 abbrev pub relinked : List (Option Links) → Option ℕ → Option ℕ → Option ℕ → Option ℕ → List (Option Links)
 relinked all before next after prev = prev_set (next_set all before next) after prev
+
+-- node x stands before the first one
+abbrev pub put_first : List (Option Links) → ℕ → Option ℕ → List (Option Links)
+put_first all x after = set (prev_set all after (Some x)) x (Some (record { prev = None; next = after }))
+
+-- node x stands right before the node at, and behind the one that was before it
+abbrev pub put_before : List (Option Links) → ℕ → ℕ → Option ℕ → List (Option Links)
+put_before all at x before = set (next_set (prev_set all (Some at) (Some x)) before (Some x)) x (Some (record { prev = before; next = Some at }))
+
+-- node x stands right behind the node at, and before the one that was behind it
+abbrev pub put_after : List (Option Links) → ℕ → ℕ → Option ℕ → List (Option Links)
+put_after all at x after = set (prev_set (next_set all (Some at) (Some x)) after (Some x)) x (Some (record { prev = Some at; next = after }))
+
+-- node x is out, and the nodes before and behind it stand side by side
+abbrev pub taken_out : List (Option Links) → Option ℕ → ℕ → Option ℕ → List (Option Links)
+taken_out all before x after = relinked (set all x None) before after after before
 
 -- the front, where `next` is now behind `before`
 abbrev pub front_after : Option ℕ → Option ℕ → Option ℕ → Option ℕ

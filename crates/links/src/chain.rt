@@ -1,8 +1,9 @@
 ghost use Rattle.std.specs.Prelude.{◌≡◌, ℕ, ◌+◌, ◌<◌, max, [], ◌∷◌, ◌++◌, List, Contains, IfOk, OnOk, OnErr};
-ghost use Rattle.links.specs.Nodes.{first_of, last_of, CountsNeighbours, IsChain, IsGap, IsInsertedAfter, IsInsertedBefore, IsNext, IsPrev, IsRemoved};
+ghost use Rattle.links.specs.Nodes.{first_of, CountsNeighbours, IsChain, IsInsertedAfter, IsInsertedBefore, IsNext, IsPrev, IsRemoved};
+ghost use Rattle.links.specs.Links.{front_after};
 
-use crate::links::{Links, front_of, next_of, prev_of, relink};
 use crate::steps::Steps;
+use crate::table::{Table, sides};
 use std::alloc::{AllocError, Global};
 use std::marker::Model;
 use std::sync::ledger::Ledger;
@@ -10,7 +11,7 @@ use std::sync::ledger::Ledger;
 /// A doubly linked list of nodes, each of which is a number below the chain's room.
 #[derive(Drop)]
 pub struct Chain {
-    links: Vec<Option<Links>>,
+    links: Table,
     front: Option<u32>,
 }
 
@@ -22,9 +23,9 @@ impl Model for Chain {
 
     ghost use Rattle.links.specs.Links.{nodes_of, IsLinked};
 
-    ghost view = { λ c. record { nodes = nodes_of c.links.items c.front; room = length c.links.items } };
+    ghost view = { λ c. record { nodes = nodes_of c.links c.front; room = length c.links } };
 
-    ghost invariant = { λ c. IsLinked c.links.items c.front (nodes_of c.links.items c.front) };
+    ghost invariant = { λ c. IsLinked c.links c.front (nodes_of c.links c.front) };
 }
 
 impl Chain {
@@ -33,8 +34,7 @@ impl Chain {
         ensures empty { IfOk result (λ chain. chain.nodes ≡ []) }
         ensures room { IfOk result (λ chain. chain.room ≡ n) }
     {
-        let mut links = Vec::new(alloc);
-        links.resize(n as usize, None)?;
+        let links = Table::with_room(alloc, n)?;
         Ok(Chain { links, front: None })
     }
 
@@ -45,10 +45,7 @@ impl Chain {
         ensures err { OnErr result (self.new.room ≡ self.old.room) }
         ensures chain { IsChain self.new }
     {
-        if self.links.len() < n as usize {
-            self.links.resize(n as usize, None)?;
-        }
-        Ok(())
+        self.links.reserve(n)
     }
 
     /// The first node, or `None` for an empty chain. It reads no node.
@@ -68,8 +65,7 @@ impl Chain {
         ensures chain { IsChain self.now }
         ensures steps { steps.new ≡ steps.old + 1 }
     {
-        steps.tick();
-        next_of(&self.links, node)
+        sides(self.links.get(node, steps)).1
     }
 
     /// The node before a node, or `None` at the front.
@@ -79,8 +75,7 @@ impl Chain {
         ensures chain { IsChain self.now }
         ensures steps { steps.new ≡ steps.old + 1 }
     {
-        steps.tick();
-        prev_of(&self.links, node)
+        sides(self.links.get(node, steps)).0
     }
 
     /// Puts a node at the front.
@@ -93,7 +88,8 @@ impl Chain {
         ensures steps { CountsNeighbours node self.new.nodes steps.old steps.new }
     {
         let after = self.front;
-        self.put(None, node, after, steps);
+        self.links.put_first(node, after, steps);
+        self.front = Some(node);
     }
 
     /// Puts a node right before the node `at`.
@@ -106,8 +102,8 @@ impl Chain {
         ensures chain { IsChain self.new }
         ensures steps { CountsNeighbours node self.new.nodes steps.old steps.new }
     {
-        let before = prev_of(&self.links, at);
-        self.put(before, node, Some(at), steps);
+        let before = self.links.put_before(at, node, steps);
+        self.front = front_of(self.front, before, Some(node));
     }
 
     /// Puts a node right behind the node `at`.
@@ -120,40 +116,7 @@ impl Chain {
         ensures chain { IsChain self.new }
         ensures steps { CountsNeighbours node self.new.nodes steps.old steps.new }
     {
-        let after = next_of(&self.links, at);
-        self.put(Some(at), node, after, steps);
-    }
-
-    // Puts a node between two neighbours, either of which may be missing at an end.
-    fn put<L: Ledger>(
-        &mut self,
-        before: Option<u32>,
-        node: u32,
-        after: Option<u32>,
-        steps: &mut Steps<L>,
-    )
-        requires gap { IsGap self.old.nodes before after }
-        requires below { node < self.old.room }
-        requires out { ¬ Contains self.old.nodes node }
-        ensures nodes { (front rest : List ℕ) → self.old.nodes ≡ front ++ rest → before ≡ last_of front → after ≡ first_of rest → self.new.nodes ≡ front ++ node ∷ rest }
-        ensures room { self.new.room ≡ self.old.room }
-        ensures chain { IsChain self.new }
-        ensures steps { CountsNeighbours node self.new.nodes steps.old steps.new }
-    {
-        steps.tick();
-        self.links[node as usize] = Some(Links {
-            prev: before,
-            next: after,
-        });
-        relink(
-            &mut self.links,
-            before,
-            Some(node),
-            after,
-            Some(node),
-            steps,
-        );
-        self.front = front_of(self.front, before, Some(node));
+        let _ = self.links.put_after(at, node, steps);
     }
 
     /// Takes a node out of the chain.
@@ -164,11 +127,17 @@ impl Chain {
         ensures chain { IsChain self.new }
         ensures steps { CountsNeighbours node self.old.nodes steps.old steps.new }
     {
-        steps.tick();
-        let before = prev_of(&self.links, node);
-        let after = next_of(&self.links, node);
-        self.links[node as usize] = None;
-        relink(&mut self.links, before, after, after, before, steps);
+        let (before, after) = self.links.take_out(node, steps);
         self.front = front_of(self.front, before, after);
+    }
+}
+
+// The front of the chain, where `next` now stands behind `before`.
+fn front_of(front: Option<u32>, before: Option<u32>, next: Option<u32>) -> Option<u32>
+    ensures { result ≡ front_after front before next }
+{
+    match before {
+        Some(_) => front,
+        None => next,
     }
 }

@@ -12,8 +12,8 @@
 #![tactic(auto)]
 
 mod chain;
-mod links;
 mod steps;
+mod table;
 #[cfg(test)]
 mod tests;
 

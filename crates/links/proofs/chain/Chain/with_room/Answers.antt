@@ -1,8 +1,6 @@
-use Rattle.std.proofs.Common.{[], None, arith}
-use Rattle.links.proofs.Calls.{resized_linked, none_linked, seen}
+use Rattle.std.proofs.Common.{[], None}
+use Rattle.links.proofs.Calls.{none_linked, seen}
 use Rattle.links.proofs.chain.Chain.with_room.Goals as goal
 
 pub invariant_of-result : goal.invariant_of-result
-invariant_of-result c =
-    let grown = rw c.new-links.ensures.items at c.in_ok-resize.ensures.items in
-    seen _ None [] (resized_linked _ [] None [] c.args.n _ grown (omega arith) (none_linked 0))
+invariant_of-result c = rw c.in_ok-links.ensures (seen _ None [] (none_linked c.args.n))
