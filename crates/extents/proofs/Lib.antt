@@ -1,3 +1,4 @@
+pub mod CallerLemmas
 pub mod Addresses
 pub mod Lists
 pub mod Trees

@@ -7,7 +7,7 @@ use Rattle.std.proofs.lemmas.List.{get_or_past}
 use Rattle.mem_base.specs.declared.history.Grant.{Grant}
 use Rattle.mem_base.specs.declared.history.Grant.TheVariants.{NotAsked, Refused, Granted}
 use Rattle.extents.specs.Sums.{tally}
-use Rattle.extents.proofs.Lists.{tally-set, tally-append}
+use Rattle.extents.proofs.CallerLemmas.{tally-set, tally-append}
 use Rattle.layout_model.specs.Layout.{Layout, Usable, Used, Full}
 use Rattle.layout_model.specs.Sizes.{capacity}
 use Rattle.layout_model.specs.Sound.{one_if, dry_times, is_pool, has_arena, full_arena, full_times, is_arena, free_in, total_in, total_or, pool_times, pools_of, AreUsable, Lives, HasSomeClass, HasTotal, IsSound}

@@ -3,7 +3,7 @@ use Rattle.std.proofs.Common.{◌≡◌, ℕ, zero, suc, ◌+◌, ◌<◌, ◌�
 use Rattle.std.proofs.lemmas.List.{get_or-set_same, get_or-set_other}
 use Rattle.std.proofs.lemmas.Bool.Decides.{eqb_tells}
 use Rattle.extents.specs.Sums.{tally}
-use Rattle.extents.proofs.Lists.{tally-set}
+use Rattle.extents.proofs.CallerLemmas.{tally-set}
 use Rattle.layout_model.specs.Layout.{Usable, Used, Full}
 use Rattle.layout_model.specs.Sizes.{capacity}
 use Rattle.layout_model.specs.Sound.{dry_times, full_times, one_if, StartsAt, Lives}

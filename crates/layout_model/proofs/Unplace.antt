@@ -3,7 +3,7 @@ use Rattle.std.proofs.Common.{◌≡◌, ℕ, zero, suc, ◌+◌, ◌-◌, ◌<�
 use Rattle.std.proofs.lemmas.List.{get_or-set_other, length-set}
 use Rattle.std.proofs.lemmas.Bool.Decides.{eqb_tells}
 use Rattle.extents.specs.Sums.{tally}
-use Rattle.extents.proofs.Lists.{tally-set, tally_length}
+use Rattle.extents.proofs.CallerLemmas.{tally-set, tally_length}
 use Rattle.layout_model.specs.Layout.{Layout, Usable, Used, Full}
 use Rattle.layout_model.specs.Sizes.{capacity}
 use Rattle.layout_model.specs.Sound.{one_if, dry_times, is_pool, has_arena, full_arena, full_times, is_arena, free_in, total_in, total_or, pool_times, pools_of, StartsAt, AreUsable, Lives, HasSomeClass, HasTotal, IsSound}

@@ -1,3 +1,4 @@
+pub mod CallerLemmas
 mod Crossing
 mod Rows
 pub mod Rules

@@ -1,7 +1,8 @@
 //! What stays of a region's cells after a write, a carve and a mend, as laws that the crates above
 //! rest on. The functions do nothing when they are called.
-ghost use Rattle.std.specs.Prelude.{◌≡◌, ◌⊎◌, ℕ, ◌+◌, ◌<◌, ◌≤◌, List, length, map, Option, Some};
-ghost use Rattle.raw_region.specs.Cells.{AtHome, IsHome, AreLent, away, bytes_of, with_run};
+ghost use Rattle.std.specs.Prelude.{◌≡◌, ◌⊎◌, ℕ, ◌+◌, ◌^◌, ◌<◌, ◌≤◌, List, length, map, Option, Some};
+ghost use Rattle.std.specs.Int.{to_le_bytes, w64};
+ghost use Rattle.raw_region.specs.Cells.{AtHome, IsHome, AreLent, away, bytes_of, with_run, word_at};
 
 /// A run that was written has the bytes that were written, and those beside it are as before.
 pub fn bytes_after_a_write()
@@ -10,6 +11,15 @@ pub fn bytes_after_a_write()
     ensures kept { (cells : List (Option ℕ)) (off : ℕ) (run : List (Option ℕ)) → off + length run ≤ length cells
         → (o k : ℕ) → o + k ≤ length cells → (o + k ≤ off) ⊎ (off + length run ≤ o)
         → bytes_of (with_run cells off (length run) run) o k ≡ bytes_of cells o k }
+{}
+
+/// A word that was written is read back, and the words beside it are as before.
+pub fn word_after_a_write()
+    ensures written { (cells : List (Option ℕ)) (off w : ℕ) → off + 8 ≤ length cells → w < 2 ^ 64
+        → word_at (with_run cells off 8 (map Some (to_le_bytes w64 w))) off ≡ w }
+    ensures kept { (cells : List (Option ℕ)) (off w : ℕ) → off + 8 ≤ length cells
+        → (o : ℕ) → o + 8 ≤ length cells → (o + 8 ≤ off) ⊎ (off + 8 ≤ o)
+        → word_at (with_run cells off 8 (map Some (to_le_bytes w64 w))) o ≡ word_at cells o }
 {}
 
 /// Bytes that are written or brought home are at home, and so is all that was beside them.
