@@ -1,0 +1,4 @@
+mod Slots
+mod Sites
+mod Radix
+mod Steps
