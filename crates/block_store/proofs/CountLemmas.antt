@@ -12,7 +12,7 @@ use Rattle.event_model.specs.Blocks.{Block, Home, in_pool, pool_times, raw_times
 use Rattle.domain_api.specs.Domains.{view_of_both}
 use Rattle.domain_api.specs.Held.{DomainsView, HasCounts}
 use Rattle.block_store.specs.Homes.{Places, home_at}
-use Rattle.block_store.specs.Slots.{IsStore, block_in, blocks_in, blocks_of, data_in, extents_of, loans_of}
+use Rattle.block_store.specs.Slots.{IsStore, block_in, block_of, blocks_in, blocks_of, data_in, extents_of, loans_of}
 use Rattle.block_store.specs.Store.{counts_in, live_in, pooled_in, raw_in, shape_in, size_in, view_of}
 use Rattle.block_store.proofs.HomeLemmas.{its_pool}
 use Rattle.block_store.proofs.StoredLemmas.{stored_long}
@@ -24,7 +24,7 @@ module _ (f : Home → ℕ) (of : Option Block → ℕ) (none : of None ≡ 0) (
   by_extents places [] = refl
   by_extents places (None ∷ ss) = omega (arith, none, by_extents places ss, sum_by-cons of None (blocks_of places ss))
   by_extents places (Some g ∷ ss) =
-      omega (arith, some (record { body = g.body; home = home_at places g.place }), by_extents places ss, sum_by-cons of (block_in places (Some g)) (blocks_of places ss))
+      omega (arith, some (block_of places g), by_extents places ss, sum_by-cons of (block_in places (Some g)) (blocks_of places ss))
 
 -- a measure that is 1 at each item of a list
 tally_same : (f : Extent → ℕ) (es : List Extent) → ((e : Extent) → Has e es → f e ≡ 1) → tally f es ≡ length es

@@ -11,7 +11,7 @@ use Rattle.raw_region.specs.Region.{PieceView}
 use Rattle.mem_base.specs.declared.history.Grant.{Grant}
 use Rattle.sources.specs.Source.{ArenaShape, SourceView}
 use Rattle.py_heap.specs.Heap.{HeapView, PoolHas, PoolsAreApart, IsHeap, IsBlock, IsFreed, regions_of}
-use Rattle.debug_guard.specs.Guard.{Guard}
+use Rattle.debug_guard.specs.Guard.{Guard, piece_of}
 use Rattle.domain_api.specs.Held.{AllWithin, AreHeld, AreSound, DomainsView}
 use Rattle.event_model.specs.Blocks.{Home, in_pool, in_raw, Block}
 use Rattle.block_store.specs.Homes.{Places, pool_has, home_from, home_at}
@@ -182,6 +182,6 @@ pub blocks_same : (slots : List (Option Guard)) (old new : Places) → SameHomes
 blocks_same [] old new same = refl
 blocks_same (None ∷ ss) old new same = ap (λ (l : List (Option Block)). None ∷ l) (blocks_same ss old new (λ i g is. same (suc i) g is))
 blocks_same (Some g ∷ ss) old new same =
-    let f : Home → Option Block = λ h. Some (record { body = g.body; home = h }) in
+    let f : Home → Option Block = λ h. Some (record { body = g.body; home = h; len = length (piece_of g).bytes }) in
     let first : block_in new (Some g) ≡ block_in old (Some g) = ap f (same 0 g refl) in
     λ i. first i ∷ blocks_same ss old new (λ j h is. same (suc j) h is) i

@@ -13,7 +13,7 @@ use Rattle.extents.specs.Sums.{tally, Has}
 use Rattle.debug_guard.specs.Guard.{Guard, guard_extent, piece_of}
 use Rattle.extents.proofs.Lists.{has_left, has_right}
 use Rattle.block_store.specs.Homes.{Places, home_at}
-use Rattle.block_store.specs.Slots.{IsStore, block_in, blocks_of, extents_of, pieces_of, piece_in}
+use Rattle.block_store.specs.Slots.{IsStore, block_in, block_of, blocks_of, extents_of, pieces_of, piece_in}
 use Rattle.block_store.specs.Spots.{names, has_address, living, spots_from, spot_at, AreSpots, GoUpFrom, IsSpot, LiesInOne}
 use Rattle.block_store.specs.Store.{view_of}
 use Rattle.block_store.specs.declared.spot.Spot.{Spot}
@@ -152,7 +152,7 @@ module _ (slots : List (Option Guard)) (d : DomainsView) (store : IsStore slots 
     len = refl;
     aligned = store.stored.aligned i g is;
     held = lies slots d i g store is;
-    block = record { body = g.body; home = home_at d.heap.places g.place };
+    block = block_of d.heap.places g;
     live = at_is slots d i ∙ ap (block_in d.heap.places) is;
     room = omega (arith, length-append (image_of g.body) g.rest, length-image_of g.body);
     image = image_there g;

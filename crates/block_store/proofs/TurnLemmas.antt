@@ -1,6 +1,7 @@
 -- The calls of a store, as turns of one slot.
-use Rattle.std.proofs.Common.{◌≡◌, ◌≢◌, ℕ, zero, suc, ◌<◌, ◌≤◌, Bool, true, false, cond, List, [], ◌∷◌, length, get_or, replicate, set, Option, Some, None, ℤ, refl, sym, ap, subst, ◌∙◌, arith, inl, inr, true≢false}
+use Rattle.std.proofs.Common.{◌≡◌, ◌≢◌, ℕ, zero, suc, ◌+◌, ◌<◌, ◌≤◌, Bool, true, false, cond, List, [], ◌∷◌, length, get_or, replicate, set, Option, Some, None, ℤ, refl, sym, ap, subst, ◌∙◌, arith, inl, inr, length-append, true≢false}
 use Rattle.std.specs.Prelude.{is_some}
+use Rattle.std.proofs.lemmas.Grind.{common_steps}
 use Rattle.std.proofs.lemmas.List.{get_or-set_other, length-map, set-get_or}
 use Rattle.std.proofs.lemmas.Option.{slice_get-get_or}
 use Rattle.std.proofs.Math.ListN.{get_or-map}
@@ -12,20 +13,20 @@ use Rattle.mem_base.specs.declared.history.Grant.TheVariants as grant
 use Rattle.mem_base.specs.declared.reply.Fault.{Fault}
 use Rattle.mem_base.specs.declared.reply.Reply.{Reply}
 use Rattle.mem_base.specs.declared.trace.Letter.{Letter}
-use Rattle.block_model.specs.Block.{finding_in, fresh, reaches, peeked, poked}
+use Rattle.block_model.specs.Block.{body_of, finding_in, fresh, image_of, reaches, peeked, poked}
 use Rattle.raw_region.specs.Region.{PieceView}
 use Rattle.extents.specs.Extent.{Extent}
 use Rattle.extents.proofs.Lists.{has_new}
 use Rattle.sources.specs.Source.{ArenaShape, SourceView}
-use Rattle.debug_guard.specs.Guard.{Guard, guard_extent}
+use Rattle.debug_guard.specs.Guard.{Guard, guard_extent, piece_of}
 use Rattle.layout_model.specs.Asks.{FitsRequest, raw_was_asked}
 use Rattle.layout_model.specs.Asks.Request.{NoRequest}
 use Rattle.layout_model.specs.Layout.{Layout, empty_layout}
 use Rattle.layout_model.specs.Sizes.{class_of, need}
-use Rattle.request_model.specs.Decision.{Decision, too_great, faults, asks, call_fault, decision, request}
+use Rattle.request_model.specs.Decision.{Decision, too_great, faults, asks, call_fault, request}
 use Rattle.py_heap.specs.Heap.{HeapView, empty_heap}
-use Rattle.event_model.specs.Blocks.{Home, in_pool, in_raw, Block}
-use Rattle.event_model.specs.Memory.{Room, Turn, turn_to, raw_home, room_for, layout_without, new_block, new_block_turn, malloc_turn, free_unless, free_turn, poke_turn, peek_turn}
+use Rattle.event_model.specs.Blocks.{Home, in_pool, in_raw, Block, len_at}
+use Rattle.event_model.specs.Memory.{Room, SizedCall, Turn, block_made, came_to, change_turn, free_turn, free_unless, layout_without, new_block, new_block_turn, peek_turn, poke_turn, raw_home, room_for, turn_to}
 use Rattle.event_model.specs.Replies.{PlainReply, busy, ok, null, fault, fault_in, bytes, outside, plain_reply}
 use Rattle.domain_api.specs.Domains.{IsMade, IsFreed, IsGivenUp, IsLent}
 use Rattle.domain_api.specs.Held.{AreHeld, AreSound, DomainsView}
@@ -36,12 +37,12 @@ use Rattle.domain_api.specs.declared.answers.Got.{Got}
 use Rattle.domain_api.specs.declared.answers.Got.TheVariants as gots
 use Rattle.block_store.specs.Homes.{home_at}
 use Rattle.block_store.specs.Replies.{answer_to, answer_after, slots_with, slots_after}
-use Rattle.block_store.specs.Slots.{IsStore, block_in, blocks_of, piece_in, pieces_of}
-use Rattle.block_store.specs.Store.{IsTurn, StoreView, block_at, empty_store, view_of}
+use Rattle.block_store.specs.Slots.{IsStore, block_in, block_of, blocks_of, piece_in, pieces_of}
+use Rattle.block_store.specs.Store.{IsTurn, StoreView, block_at, empty_store, sized_by, view_of}
 use Rattle.block_store.proofs.HomeLemmas.{home_of_freed, home_of_new, home_of_raw}
 use Rattle.block_store.proofs.RoomLemmas.{room_in_pool, room_in_raw}
 use Rattle.block_store.proofs.LoanLemmas.{gone_homes, gone_store, gone_stored, drop_blocks, left_others, lent_homes, lent_store, put_blocks}
-use Rattle.block_store.proofs.StoredLemmas.{some_bytes}
+use Rattle.block_store.proofs.StoredLemmas.{length-image_of, some_bytes}
 
 abbrev Slots : Type 0
 Slots = List (Option Guard)
@@ -146,30 +147,41 @@ module _ (slots : Slots) (d : DomainsView) (i : ℕ) (f : Layout → Option Bloc
 
 -- ---- requests
 
-module _ (slots : Slots) (d : DomainsView) (i : ℕ) (v : Letter) (n fill : ℕ) (locked : Bool) (arena : Grant) (raw : Ask) where
-  -- the name has a block
-  pub busy_turn : (reply : Reply) → Says reply busy → is_some (get_or slots i None) ≡ true → IsTurn i (malloc_turn v n fill locked arena raw) (view_of slots d) (view_of slots d) reply
-  busy_turn reply says some = stays_so slots d i (malloc_turn v n fill locked arena raw) reply busy (by (get_or slots i None) some) says
+module _ (slots : Slots) (d : DomainsView) (i : ℕ) (call : SizedCall) (locked : Bool) (asked : Asked) where
+  -- the name has a block, and the call does not go on from it
+  pub busy_turn : (reply : Reply) → Says reply busy → call.goes_on ≡ false → is_some (get_or slots i None) ≡ true → IsTurn i (sized_by call locked asked) (view_of slots d) (view_of slots d) reply
+  busy_turn reply says new some = stays_so slots d i (sized_by call locked asked) reply busy (by (get_or slots i None) some) says
     where
-      by : (o : Option Guard) → is_some o ≡ true → malloc_turn v n fill locked arena raw d.heap.layout (block_in d.heap.places o) ≡ turn_to (block_in d.heap.places o) d.heap.layout busy
+      by : (o : Option Guard) → is_some o ≡ true → sized_by call locked asked d.heap.layout (block_in d.heap.places o) ≡ turn_to (block_in d.heap.places o) d.heap.layout busy
       by None h = absurd (true≢false (sym h))
-      by (Some g) h = refl
+      by (Some g) h =
+          let block = block_of d.heap.places g in
+          ap (λ (b : Bool). cond {A = Turn} b (change_turn call asked.arena asked.raw d.heap.layout block (came_to call locked (Some block))) (turn_to (Some block) d.heap.layout busy)) new
 
-  -- a free name, by what the request comes to
-  made_is : (x : Decision) → get_or slots i None ≡ None → decision v n locked None ≡ x → turn_at slots d i (malloc_turn v n fill locked arena raw) ≡ new_block_turn v n fill arena raw d.heap.layout x
+  -- a free name, by what the call comes to
+  made_is : (x : Decision) → get_or slots i None ≡ None → came_to call locked None ≡ x → turn_at slots d i (sized_by call locked asked) ≡ new_block_turn call asked.arena asked.raw d.heap.layout x
   made_is x free is =
-      ap (λ (o : Option Guard). malloc_turn v n fill locked arena raw d.heap.layout (block_in d.heap.places o)) free ∙ ap (new_block_turn v n fill arena raw d.heap.layout) is
+      ap (λ (o : Option Guard). sized_by call locked asked d.heap.layout (block_in d.heap.places o)) free ∙ ap (new_block_turn call asked.arena asked.raw d.heap.layout) is
 
--- a request that came so far, where its room is this
-room_so : (v : Letter) (n fill : ℕ) (arena : Grant) (raw : Ask) (l : Layout) (home : Option Home) (later : Layout) → room_for l (request v n) arena raw ≡ record { home = home; layout = later }
-    → new_block_turn v n fill arena raw l asks ≡ new_block v n fill home later
-room_so v n fill arena raw l home later is = ap (λ (r : Room). new_block v n fill r.home r.layout) is
+-- a call that came so far, where its room is this
+room_so : (call : SizedCall) (arena : Grant) (raw : Ask) (l : Layout) (home : Option Home) (later : Layout) → room_for l (request call.letter call.size) arena raw ≡ record { home = home; layout = later }
+    → new_block_turn call arena raw l asks ≡ new_block call home later
+room_so call arena raw l home later is = ap (λ (r : Room). new_block call r.home r.layout) is
+
+length-fresh : (v : Letter) (n b : ℕ) → length (fresh v n b) ≡ n + 16
+unfolding body_of
+length-fresh v n b = grind (arith, common_steps)
+
+-- how many bytes a whole region has that is a new block
+region_len : (v : Letter) (n fill : ℕ) (g : Guard) → g.body ≡ fresh v n fill → g.rest ≡ [] → length (piece_of g).bytes ≡ need n
+region_len v n fill g body all = omega (arith, length-append (image_of g.body) g.rest, ap length all, length-image_of g.body, ap length body, length-fresh v n fill)
 
 module _ (old new : DomainsView) (arenas : SourceView ArenaShape) (raws : SourceView ℕ) (sound : AreSound new.heap new.raws) (held : AreHeld new arenas raws) where
   -- where a block that was lent lies
   record Lies (v : Letter) (n : ℕ) (g : Guard) (asked : Asked) : Type 0 where
     pub home : Home
     pub there : home_at new.heap.places g.place ≡ home
+    pub len : length (piece_of g).bytes ≡ len_at home (need n)
     pub room : room_for old.heap.layout (request v n) asked.arena asked.raw ≡ record { home = Some home; layout = new.heap.layout }
 
   lies : (v : Letter) (n fill : ℕ) (g : Guard) (asked : Asked) → FitsRequest old.heap.layout (request v n) asked.arena asked.raw → IsLent v n fill g asked old new → Lies v n g asked
@@ -181,6 +193,7 @@ module _ (old new : DomainsView) (arenas : SourceView ArenaShape) (raws : Source
           home = in_pool b.pool;
           there = ap (λ (e : Extent). home_at new.heap.places e.place) (sym small.there)
               ∙ home_of_new (class_of (need n)) asked.arena small.piece old.heap new.heap sound.heap_is b (subst (λ (e : Extent). 1 ≤ e.len) (sym small.there) long);
+          len = ap (λ (e : Extent). e.len) (sym small.there) ∙ b.len;
           room = room_in_pool old.heap.layout v n asked.arena asked.raw b.pool fits (ap raw_was_asked small.raw) b.placed
               ∙ ap (λ (l : Layout). record { home = Some (in_pool b.pool); layout = l }) (sym small.serves.layout);
         }
@@ -188,6 +201,7 @@ module _ (old new : DomainsView) (arenas : SourceView ArenaShape) (raws : Source
         record {
           home = in_raw;
           there = home_of_raw new arenas raws (guard_extent g) sound.heap_is held (has_new (guard_extent g) old.raws new.raws large.lent) (some_bytes g);
+          len = region_len v n fill g lent.body large.all;
           room = room_in_raw old.heap.layout v n asked.arena asked.raw fits (ap raw_was_asked large.raw)
               ∙ (λ i. record { home = raw_home_is asked.raw large.raw i; layout = sym (ap (λ (h : HeapView). h.layout) large.heap) i });
         }
@@ -196,39 +210,40 @@ module _ (old new : DomainsView) (arenas : SourceView ArenaShape) (raws : Source
       raw_home_is : (a : Ask) → a ≡ ask.Granted → raw_home a ≡ Some in_raw
       raw_home_is a is = ap raw_home is
 
-  pub made_turn : (slots : Slots) (i : ℕ) (v : Letter) (n fill : ℕ) (locked : Bool) (got : Got) (asked : Asked) (reply : Reply) → IsStore slots old → get_or slots i None ≡ None → Says reply (answer_to got)
-      → IsMade v n fill locked old new got asked → IsTurn i (malloc_turn v n fill locked asked.arena asked.raw) (view_of slots old) (view_of (slots_with slots i got) new) reply
-  made_turn slots i v n fill locked (gots.Block g) asked reply store free says is =
+  pub made_turn : (slots : Slots) (i : ℕ) (call : SizedCall) (locked : Bool) (got : Got) (asked : Asked) (reply : Reply) → IsStore slots old → get_or slots i None ≡ None → Says reply (answer_to got)
+      → IsMade call.letter call.size call.fill locked old new got asked → IsTurn i (sized_by call locked asked) (view_of slots old) (view_of (slots_with slots i got) new) reply
+  made_turn slots i call locked (gots.Block g) asked reply store free says is =
+      let v = call.letter in let n = call.size in let fill = call.fill in
       let at = lies v n fill g asked is.1.0 is.1.1 in
-      let f = malloc_turn v n fill locked asked.arena asked.raw in
-      let made : turn_at slots old i f ≡ turn_to (Some (record { body = fresh v n fill; home = at.home })) new.heap.layout ok =
-      made_is slots old i v n fill locked asked.arena asked.raw asks free is.0 ∙ room_so v n fill asked.arena asked.raw old.heap.layout (Some at.home) new.heap.layout at.room in
-      let block : block_in new.heap.places (Some g) ≡ Some (record { body = fresh v n fill; home = at.home }) =
-      (let f : Block → Option Block = λ b. Some b in ap f (λ j. record { body = is.1.1.body j; home = at.there j })) in
+      let f = sized_by call locked asked in
+      let made : turn_at slots old i f ≡ turn_to (Some (block_made call (fresh v n fill) at.home)) new.heap.layout ok =
+      made_is slots old i call locked asked asks free is.0 ∙ room_so call asked.arena asked.raw old.heap.layout (Some at.home) new.heap.layout at.room in
+      let block : block_in new.heap.places (Some g) ≡ Some (block_made call (fresh v n fill) at.home) =
+      (let f : Block → Option Block = λ b. Some b in ap f (λ j. record { body = is.1.1.body j; home = at.there j; len = at.len j })) in
       sets_so slots old i f reply new (Some g) ok
       (put_blocks slots i (Some g) old.heap.places new.heap.places (lent_homes old new arenas raws sound held slots v n fill g asked store is.1.1))
       (made ∙ ap (λ (b : Option Block). turn_to b new.heap.layout ok) (sym block)) says
-  made_turn slots i v n fill locked gots.Null asked reply store free says is = elim is [
+  made_turn slots i call locked gots.Null asked reply store free says is = elim is [
     | inl great ↦
-        subst (λ (d : DomainsView). IsTurn i (malloc_turn v n fill locked asked.arena asked.raw) (view_of slots old) (view_of slots d) reply) (sym great.1.0)
-        (stays_so slots old i (malloc_turn v n fill locked asked.arena asked.raw) reply null
-        (made_is slots old i v n fill locked asked.arena asked.raw too_great free great.0 ∙ nothing_kept null) says)
+        subst (λ (d : DomainsView). IsTurn i (sized_by call locked asked) (view_of slots old) (view_of slots d) reply) (sym great.1.0)
+        (stays_so slots old i (sized_by call locked asked) reply null
+        (made_is slots old i call locked asked too_great free great.0 ∙ nothing_kept null) says)
     | inr refused ↦
-        let room = room_in_raw old.heap.layout v n asked.arena asked.raw refused.1.1 (ap raw_was_asked refused.1.2) in
+        let room = room_in_raw old.heap.layout call.letter call.size asked.arena asked.raw refused.1.1 (ap raw_was_asked refused.1.2) in
         let none = ap raw_home refused.1.2 in
-        subst (λ (d : DomainsView). IsTurn i (malloc_turn v n fill locked asked.arena asked.raw) (view_of slots old) (view_of slots d) reply) (sym refused.1.0)
-        (stays_so slots old i (malloc_turn v n fill locked asked.arena asked.raw) reply null
-        (made_is slots old i v n fill locked asked.arena asked.raw asks free refused.0
-        ∙ room_so v n fill asked.arena asked.raw old.heap.layout None old.heap.layout (room ∙ ap (λ (h : Option Home). record { home = h; layout = old.heap.layout }) none)
+        subst (λ (d : DomainsView). IsTurn i (sized_by call locked asked) (view_of slots old) (view_of slots d) reply) (sym refused.1.0)
+        (stays_so slots old i (sized_by call locked asked) reply null
+        (made_is slots old i call locked asked asks free refused.0
+        ∙ room_so call asked.arena asked.raw old.heap.layout None old.heap.layout (room ∙ ap (λ (h : Option Home). record { home = h; layout = old.heap.layout }) none)
         ∙ nothing_kept null) says)
   ]
     where
       nothing_kept : (answer : PlainReply) → turn_to None old.heap.layout answer ≡ turn_to (block_in old.heap.places (get_or slots i None)) old.heap.layout answer
       nothing_kept answer = ap (λ (o : Option Guard). turn_to (block_in old.heap.places o) old.heap.layout answer) (sym free)
-  made_turn slots i v n fill locked (gots.Fault found) asked reply store free says is =
-      subst (λ (d : DomainsView). IsTurn i (malloc_turn v n fill locked asked.arena asked.raw) (view_of slots old) (view_of slots d) reply) (sym is.1.0)
-      (stays_so slots old i (malloc_turn v n fill locked asked.arena asked.raw) reply (fault found None)
-      (made_is slots old i v n fill locked asked.arena asked.raw (faults found) free is.0
+  made_turn slots i call locked (gots.Fault found) asked reply store free says is =
+      subst (λ (d : DomainsView). IsTurn i (sized_by call locked asked) (view_of slots old) (view_of slots d) reply) (sym is.1.0)
+      (stays_so slots old i (sized_by call locked asked) reply (fault found None)
+      (made_is slots old i call locked asked (faults found) free is.0
       ∙ ap (λ (o : Option Guard). turn_to (block_in old.heap.places o) old.heap.layout (fault found None)) (sym free)) says)
 
   pub made_store : (slots : Slots) (i : ℕ) (v : Letter) (n fill : ℕ) (locked : Bool) (got : Got) (asked : Asked) → IsStore slots old → i < length slots → get_or slots i None ≡ None → IsMade v n fill locked old new got asked
@@ -258,10 +273,10 @@ module _ (old new : DomainsView) (arenas : SourceView ArenaShape) (raws : Source
 
   -- what a free of the slot's block comes to, by the fault of the call
   free_is : (slots : Slots) (i : ℕ) (g : Guard) (v : Letter) (locked : Bool) (o : Option Fault) → get_or slots i None ≡ Some g → call_fault v locked (finding_in v g.body) ≡ o
-      → turn_at slots old i (free_turn v locked) ≡ free_unless o old.heap.layout (Some (record { body = g.body; home = home_at old.heap.places g.place }))
+      → turn_at slots old i (free_turn v locked) ≡ free_unless o old.heap.layout (Some (block_of old.heap.places g))
   free_is slots i g v locked o here found =
       ap (λ (p : Option Guard). free_turn v locked old.heap.layout (block_in old.heap.places p)) here
-      ∙ ap (λ (x : Option Fault). free_unless x old.heap.layout (Some (record { body = g.body; home = home_at old.heap.places g.place }))) found
+      ∙ ap (λ (x : Option Fault). free_unless x old.heap.layout (Some (block_of old.heap.places g))) found
 
   pub freed_turn : (slots : Slots) (i : ℕ) (g : Guard) (v : Letter) (locked : Bool) (came : Freed) (reply : Reply) → IsStore slots old → i < length slots → get_or slots i None ≡ Some g → Says reply (answer_after came)
       → IsFreed v locked g old new came → IsTurn i (free_turn v locked) (view_of slots old) (view_of (slots_after (set slots i None) i came) new) reply

@@ -1,5 +1,5 @@
 -- Slots with guarded blocks, the blocks that they stand for, and the memory that these lie in.
-use Rattle.std.specs.Prelude.{◌≡◌, ℕ, ◌%◌, List, [], ◌∷◌, ◌++◌, map, get_or, Option, Some, None}
+use Rattle.std.specs.Prelude.{◌≡◌, ℕ, ◌%◌, List, [], ◌∷◌, ◌++◌, length, map, get_or, Option, Some, None}
 use Rattle.std.specs.Option.{option_map}
 use Rattle.block_model.specs.Block.{size_of}
 use Rattle.raw_region.specs.Region.{PieceView}
@@ -12,9 +12,17 @@ use Rattle.block_store.specs.Homes.{Places, home_at}
 
 -- ---- one slot
 
+-- the block that a guard is, with the memory of its piece
+abbrev pub block_of : Places → Guard → Block
+block_of places g = record {
+  body = g.body;
+  home = home_at places g.place;
+  len = length (piece_of g).bytes;
+}
+
 -- the block of a slot
 abbrev pub block_in : Places → Option Guard → Option Block
-block_in places slot = option_map (λ g. record { body = g.body; home = home_at places g.place }) slot
+block_in places slot = option_map (block_of places) slot
 
 -- the memory that a slot's block lies in
 abbrev pub piece_in : Option Guard → Option PieceView

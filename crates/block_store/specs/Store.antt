@@ -1,11 +1,11 @@
 -- What contracts see of a store, and what one call does to it.
-use Rattle.std.specs.Prelude.{◌≡◌, ◌≢◌, ℕ, ◌-◌, List, get_or, replicate, slice_set, sum_by, [], Option, Some, None}
+use Rattle.std.specs.Prelude.{◌≡◌, ◌≢◌, ℕ, ◌-◌, Bool, List, get_or, replicate, slice_set, sum_by, [], Option, Some, None}
 use Rattle.py_heap.specs.Heap.{regions_of}
 use Rattle.mem_base.specs.Name.{Name}
 use Rattle.mem_base.specs.declared.reply.Counts.{Counts}
 use Rattle.mem_base.specs.declared.reply.Reply.{Reply}
 use Rattle.mem_base.specs.declared.reply.View.{View}
-use Rattle.block_model.specs.Block.{new_byte, size_of}
+use Rattle.block_model.specs.Block.{size_of}
 use Rattle.raw_region.specs.Region.{PieceView}
 use Rattle.extents.specs.Extent.{Extent}
 use Rattle.layout_model.specs.Asks.{FitsRequest}
@@ -15,10 +15,9 @@ use Rattle.debug_guard.specs.Guard.{Guard}
 use Rattle.domain_api.specs.Held.{DomainsView}
 use Rattle.domain_api.specs.declared.answers.Asked.{Asked}
 use Rattle.event_model.specs.Blocks.{Block, pool_times, raw_times}
-use Rattle.event_model.specs.Memory.{Turn, malloc_request, malloc_turn}
+use Rattle.event_model.specs.Memory.{SizedCall, Turn, sized_request, sized_turn}
 use Rattle.event_model.specs.Replies.{plain_reply}
 use Rattle.block_store.specs.Slots.{blocks_of, pieces_of}
-use Rattle.block_store.specs.declared.answer.Call.{Call}
 
 -- blocks by number, and the memory that they lie in
 pub record StoreView : Type 0 where
@@ -71,14 +70,14 @@ pub record IsTurn (i : ℕ) (f : Layout → Option Block → Turn) (old new : St
   pub answer : (texts : List Name) → plain_reply texts reply ≡ (f old.layout (block_at old i)).answer
   pub others : (j : ℕ) → j ≢ i → piece_at new j ≡ piece_at old j
 
--- malloc of so many bytes by a call, with these answers of the sources
-abbrev pub malloc_by : Call → ℕ → Asked → Layout → Option Block → Turn
-malloc_by call n asked = malloc_turn call.letter n new_byte call.locked asked.arena asked.raw
+-- a call for a block, by a caller that owns the lock or not, with these answers of the sources
+abbrev pub sized_by : SizedCall → Bool → Asked → Layout → Option Block → Turn
+sized_by call locked asked = sized_turn call locked asked.arena asked.raw
 
--- the answers fit what that malloc asks for, into the name with that number
-abbrev pub FitsMalloc : StoreView → ℕ → Call → ℕ → Asked → Type 0
-FitsMalloc s i call n asked =
-    FitsRequest s.layout (malloc_request call.letter n call.locked (block_at s i)) asked.arena asked.raw
+-- the answers fit what that call asks for, on what the name with that number holds
+abbrev pub FitsCall : StoreView → ℕ → SizedCall → Bool → Asked → Type 0
+FitsCall s i call locked asked =
+    FitsRequest s.layout (sized_request call locked (block_at s i)) asked.arena asked.raw
 
 -- the same regions are held
 pub record HoldsTheSame (old new : StoreView) : Type 0 where

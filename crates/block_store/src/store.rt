@@ -59,10 +59,10 @@ fn totals_of(slots: &[Option<Guarded>]) -> StoreTotals
 }
 
 impl Store {
-    ghost use Rattle.event_model.specs.Memory.{free_turn, peek_turn, poke_turn};
+    ghost use Rattle.event_model.specs.Memory.{free_turn, malloc_call, peek_turn, poke_turn};
     ghost use Rattle.block_store.specs.Sources.{AreHeld, ArenasServe, CanAsk, Fails, FailsUnrefused, IsPassedOn, RawsServe, Rests};
     ghost use Rattle.block_store.specs.Spots.{AreSpots, living};
-    ghost use Rattle.block_store.specs.Store.{counts_in, empty_store, malloc_by, shape_in, FitsMalloc, HoldsTheSame, IsTurn};
+    ghost use Rattle.block_store.specs.Store.{counts_in, empty_store, shape_in, sized_by, FitsCall, HoldsTheSame, IsTurn};
 
     /// A store with no block at any of so many numbers. The error is want of memory.
     pub fn new(alloc: Global, count: usize) -> Result<Store, AllocError>
@@ -94,8 +94,9 @@ impl Store {
         requires there { name.0 < length self.old.blocks }
         requires ask { CanAsk self.old (A.seen arenas.old) (R.seen raws.old) }
         requires held { AreHeld self.old (A.seen arenas.old) (R.seen raws.old) }
-        ensures turn { IfOk result (λ a. IsTurn name.0 (malloc_by call size a.asked) self.old self.new a.reply) }
-        ensures fits { IfOk result (λ a. FitsMalloc self.old name.0 call size a.asked) }
+        ensures turn { IfOk result (λ a. IsTurn name.0 (sized_by (malloc_call call.letter size) call.locked a.asked)
+            self.old self.new a.reply) }
+        ensures fits { IfOk result (λ a. FitsCall self.old name.0 (malloc_call call.letter size) call.locked a.asked) }
         ensures arenas { IfOk result (λ a.
             ArenasServe a.asked self.old self.new (A.seen arenas.old) (A.seen arenas.new)) }
         ensures raws { IfOk result (λ a. RawsServe a.asked self.old self.new (R.seen raws.old) (R.seen raws.new)) }

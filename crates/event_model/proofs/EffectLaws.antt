@@ -6,38 +6,66 @@ use Rattle.mem_base.specs.declared.history.Grant.{Grant}
 use Rattle.mem_base.specs.declared.history.Ask.{Ask}
 use Rattle.mem_base.specs.declared.history.Entry.{Entry}
 use Rattle.trace_model.specs.Plain.{Action, acquire, release, malloc, free, poke, peek, heap, refuse, other, PlainTrack, name_of}
-use Rattle.block_model.specs.Block.{new_byte}
-use Rattle.layout_model.specs.Asks.{FitsRequest}
+use Rattle.layout_model.specs.Asks.{Request, FitsRequest}
 use Rattle.layout_model.specs.Asks.Request.{FromPools}
 use Rattle.layout_model.specs.Layout.{Layout}
 use Rattle.layout_model.specs.Place.{place}
 use Rattle.layout_model.specs.Sizes.{is_small, class_of}
-use Rattle.layout_model.specs.Unplace.{unplace}
 use Rattle.map_model.specs.Map.{find}
 use Rattle.map_model.proofs.CallerLemmas.{find-hold_other, find-hold_again}
-use Rattle.request_model.specs.Decision.{call_fault, decision}
-use Rattle.request_model.proofs.CallerLemmas.{decides}
-use Rattle.event_model.specs.Blocks.{Block}
-use Rattle.event_model.specs.Effects.{effect, may_do_next, request_of}
+use Rattle.request_model.specs.Decision.{call_fault}
+use Rattle.event_model.specs.Effects.{effect, may_do_next, on_sized, request_of, sized_call, sized_for}
 use Rattle.event_model.specs.Events.{event, event_of, settle, advance, next_action, next_request}
 use Rattle.event_model.specs.History.{IsNext}
 use Rattle.event_model.specs.Laws.{IsNull}
-use Rattle.event_model.specs.Memory.{finding_of, malloc_turn, malloc_request}
+use Rattle.event_model.specs.Memory.{SizedCall, finding_of, malloc_call}
 use Rattle.event_model.specs.Replies.{PlainReply, ok, null, held, not_held, is_fault}
 use Rattle.event_model.specs.State.{Held, State, is_owner}
-use Rattle.event_model.proofs.KeepLaws.{malloc_keeps, free_keeps, poke_keeps, peek_keeps}
-use Rattle.event_model.proofs.LayoutLaws.{Placing, malloc_holds, unless_holds, poke_holds, peek_holds}
+use Rattle.event_model.proofs.KeepLaws.{sized_keeps, free_keeps, poke_keeps, peek_keeps}
+use Rattle.event_model.proofs.LayoutLaws.{Placing, Unplacing, sized_holds, unless_holds, poke_holds, peek_holds}
 use Rattle.event_model.proofs.LeftLaws.{waits}
-use Rattle.event_model.proofs.NullLaws.{acquire_null, release_null, malloc_null, free_null, poke_null, peek_null, null_decided}
+use Rattle.event_model.proofs.NullLaws.{acquire_null, release_null, free_null, poke_null, peek_null, sized_why, sized_null}
+
+-- ---- calls for a block
+
+-- an operation that is a call for a block under a name does what that call does
+pub sized_is : (h : Held) (t : ℕ) (a : Action) (arena : Grant) (raw : Ask) (name : Name) (call : SizedCall) → name_of a ≡ Some name → sized_call a ≡ Some call → effect h t a arena raw ≡ on_sized h t name call arena raw
+sized_is h t acquire arena raw name call named sized = absurd cc
+sized_is h t release arena raw name call named sized = absurd cc
+sized_is h t (malloc v mine n) arena raw name call named sized =
+    let same : mine ≡ name = cc in
+    let this : malloc_call v n ≡ call = cc in
+    λ i. on_sized h t (same i) (this i) arena raw
+sized_is h t (free v mine) arena raw name call named sized = absurd cc
+sized_is h t (poke mine offset new) arena raw name call named sized = absurd cc
+sized_is h t (peek mine offset count) arena raw name call named sized = absurd cc
+sized_is h t heap arena raw name call named sized = absurd cc
+sized_is h t (refuse side k) arena raw name call named sized = absurd cc
+sized_is h t other arena raw name call named sized = absurd cc
+
+-- and asks for what that call asks for
+pub sized_asks : (h : Held) (t : ℕ) (a : Action) (name : Name) (call : SizedCall) → name_of a ≡ Some name → sized_call a ≡ Some call → request_of h t a ≡ sized_for h t name call
+sized_asks h t acquire name call named sized = absurd cc
+sized_asks h t release name call named sized = absurd cc
+sized_asks h t (malloc v mine n) name call named sized =
+    let same : mine ≡ name = cc in
+    let this : malloc_call v n ≡ call = cc in
+    λ i. sized_for h t (same i) (this i)
+sized_asks h t (free v mine) name call named sized = absurd cc
+sized_asks h t (poke mine offset new) name call named sized = absurd cc
+sized_asks h t (peek mine offset count) name call named sized = absurd cc
+sized_asks h t heap name call named sized = absurd cc
+sized_asks h t (refuse side k) name call named sized = absurd cc
+sized_asks h t other name call named sized = absurd cc
 
 -- ---- layouts
 
 -- a fact that holds of the layout, and wherever the request and a freed block lead, holds after the operation
 effect_holds : (P : Layout → Type 0) (h : Held) (t : ℕ) (a : Action) (arena : Grant) (raw : Ask)
-    → P h.layout → Placing P h.layout arena (request_of h t a) → ((k : ℕ) → P (unplace h.layout k)) → P (effect h t a arena raw).0.layout
+    → P h.layout → Placing P h.layout arena (request_of h t a) → Unplacing P → P (effect h t a arena raw).0.layout
 effect_holds P h t acquire arena raw here placed unplaced = here
 effect_holds P h t release arena raw here placed unplaced = here
-effect_holds P h t (malloc v name n) arena raw here placed unplaced = malloc_holds P v n new_byte (is_owner h.owner t) arena raw h.layout (find h.blocks name) here placed
+effect_holds P h t (malloc v name n) arena raw here placed unplaced = sized_holds P (malloc_call v n) (is_owner h.owner t) arena raw h.layout (find h.blocks name) here placed unplaced
 effect_holds P h t (free v name) arena raw here placed unplaced =
     let now = find h.blocks name in
     unless_holds P (call_fault v (is_owner h.owner t) (finding_of v now)) h.layout now here unplaced
@@ -58,7 +86,7 @@ settle_holds P tracks t s r here there = by (is_fault r.1)
 pub event_holds : (P : Layout → Type 0) (tracks : List PlainTrack) (s : State) (e : Entry)
     → P s.held.layout
     → ((m : ℕ) → next_request s.held e.track (next_action tracks s e.track) ≡ FromPools m → is_small m ≡ true → P (place s.held.layout (class_of m) e.arena).layout)
-    → ((k : ℕ) → P (unplace s.held.layout k))
+    → Unplacing P
     → P (event tracks s e).0.held.layout
 unfolding event
 event_holds P tracks s e here placed unplaced = by (next_action tracks s e.track) placed
@@ -76,11 +104,17 @@ reply_of tracks s e a is = ap (λ (o : Option Action). (event_of tracks s e.trac
 
 -- ---- an event that answers null
 
+null_sized : (tracks : List PlainTrack) (s : State) (e : Entry) (a : Action) (name : Name) (call : SizedCall) → next_action tracks s e.track ≡ Some a → name_of a ≡ Some name → sized_call a ≡ Some call
+    → FitsRequest s.held.layout (sized_for s.held e.track name call) e.arena e.raw → (on_sized s.held e.track name call e.arena e.raw).1 ≡ null → IsNull tracks s e
+null_sized tracks s e a name call is named sized fits h =
+    let why = sized_why call (is_owner s.held.owner e.track) e.arena e.raw s.held.layout (find s.held.blocks name) fits h in
+    record { action = a; next = is; name = name; named = named; call = call; sized = sized; null = record { idle = why.0; why = why.1 } }
+
 null_by : (tracks : List PlainTrack) (s : State) (e : Entry) (a : Action) → next_action tracks s e.track ≡ Some a
     → FitsRequest s.held.layout (request_of s.held e.track a) e.arena e.raw → (effect s.held e.track a e.arena e.raw).1 ≡ null → IsNull tracks s e
 null_by tracks s e acquire is fits h = absurd (acquire_null e.track s.held.owner h)
 null_by tracks s e release is fits h = absurd (release_null e.track s.held.owner h)
-null_by tracks s e (malloc v name n) is fits h = (v, name, n, is, malloc_null s.held e v name n new_byte (find s.held.blocks name) refl fits h)
+null_by tracks s e (malloc v name n) is fits h = null_sized tracks s e (malloc v name n) name (malloc_call v n) is refl refl fits h
 null_by tracks s e (free v name) is fits h =
     let now = find s.held.blocks name in
     absurd (free_null (call_fault v (is_owner s.held.owner e.track) (finding_of v now)) s.held.layout now h)
@@ -101,17 +135,12 @@ null_for tracks s e next h =
 
 pub null_where : (tracks : List PlainTrack) (s : State) (e : Entry) → IsNext tracks s e → IsNull tracks s e → (event tracks s e).1 ≡ null
 null_where tracks s e next is =
-    let v = is.0 in
-    let name = is.1 in
-    let n = is.2 in
-    let l = s.held.layout in
-    let locked = is_owner s.held.owner e.track in
-    let there = is.4.free in
-    let fits = fits_action tracks s e (malloc v name n) next is.3 in
-    let fits_free = subst (λ (o : Option Block). FitsRequest l (malloc_request v n locked o) e.arena e.raw) there fits in
-    reply_of tracks s e (malloc v name n) is.3
-    ∙ ap (λ (o : Option Block). (malloc_turn v n new_byte locked e.arena e.raw l o).answer) there
-    ∙ null_decided v n new_byte locked e.arena e.raw l (decision v n locked None) (decides v n locked None) fits_free is.4.why
+    let h = s.held in
+    let same = sized_is h e.track is.action e.arena e.raw is.name is.call is.named is.sized in
+    let fits = subst (λ (r : Request). FitsRequest h.layout r e.arena e.raw) (sized_asks h e.track is.action is.name is.call is.named is.sized) (fits_action tracks s e is.action next is.next) in
+    reply_of tracks s e is.action is.next
+    ∙ ap (λ (r : Held × PlainReply). r.1) same
+    ∙ sized_null is.call (is_owner h.owner e.track) e.arena e.raw h.layout (find h.blocks is.name) fits is.null.idle is.null.why
 
 -- ---- the lock
 
@@ -194,7 +223,7 @@ pub effect_keeps_unless_ok : (h : Held) (t : ℕ) (a : Action) (arena : Grant) (
 effect_keeps_unless_ok h t acquire arena raw name ne = refl
 effect_keeps_unless_ok h t release arena raw name ne = refl
 effect_keeps_unless_ok h t (malloc v mine n) arena raw name ne =
-    find-hold_again h.blocks mine name _ (malloc_keeps v n new_byte (is_owner h.owner t) arena raw h.layout (find h.blocks mine) ne)
+    find-hold_again h.blocks mine name _ (sized_keeps (malloc_call v n) (is_owner h.owner t) arena raw h.layout (find h.blocks mine) ne)
 effect_keeps_unless_ok h t (free v mine) arena raw name ne =
     let now = find h.blocks mine in
     find-hold_again h.blocks mine name _ (free_keeps (call_fault v (is_owner h.owner t) (finding_of v now)) h.layout now ne)

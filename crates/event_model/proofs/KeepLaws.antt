@@ -3,28 +3,51 @@ use Rattle.std.proofs.Common.{◌≡◌, ◌≢◌, ℕ, ℤ, Bool, true, false,
 use Rattle.mem_base.specs.declared.history.Grant.{Grant}
 use Rattle.mem_base.specs.declared.history.Ask.{Ask}
 use Rattle.mem_base.specs.declared.reply.Fault.{Fault}
-use Rattle.mem_base.specs.declared.trace.Letter.{Letter}
 use Rattle.block_model.specs.Block.{reaches, peeked, poked}
 use Rattle.layout_model.specs.Layout.{Layout}
-use Rattle.request_model.specs.Decision.{Decision, too_great, faults, asks, decision, request}
+use Rattle.layout_model.specs.Sizes.{need}
+use Rattle.request_model.specs.Decision.{Decision, too_great, faults, asks, request}
 use Rattle.event_model.specs.Blocks.{Home, Block}
-use Rattle.event_model.specs.Memory.{Turn, turn_to, room_for, new_block, new_block_turn, malloc_turn, free_unless, poke_turn, peek_turn}
-use Rattle.event_model.specs.Replies.{ok, outside, bytes}
+use Rattle.event_model.specs.Memory.{Turn, turn_to, room_for, SizedCall, came_to, new_block, new_block_turn, stays_in_place, request_to_move, move_block, change_turn, sized_turn, free_unless, poke_turn, peek_turn}
+use Rattle.event_model.specs.Replies.{ok, busy, outside, bytes}
+use Rattle.event_model.proofs.LayoutLaws.{change_by}
 
-new_keeps : (v : Letter) (n fill : ℕ) (home : Option Home) (l : Layout) → (new_block v n fill home l).answer ≢ ok → (new_block v n fill home l).block ≡ None
-new_keeps v n fill None l ne = refl
-new_keeps v n fill (Some home) l ne = absurd (ne refl)
+new_keeps : (call : SizedCall) (home : Option Home) (l : Layout) → (new_block call home l).answer ≢ ok → (new_block call home l).block ≡ None
+new_keeps call None l ne = refl
+new_keeps call (Some home) l ne = absurd (ne refl)
 
-decision_keeps : (v : Letter) (n fill : ℕ) (arena : Grant) (raw : Ask) (l : Layout) (d : Decision) → (new_block_turn v n fill arena raw l d).answer ≢ ok → (new_block_turn v n fill arena raw l d).block ≡ None
-decision_keeps v n fill arena raw l too_great ne = refl
-decision_keeps v n fill arena raw l (faults found) ne = refl
-decision_keeps v n fill arena raw l asks ne =
-    let room = room_for l (request v n) arena raw in
-    new_keeps v n fill room.home room.layout ne
+decision_keeps : (call : SizedCall) (arena : Grant) (raw : Ask) (l : Layout) (d : Decision) → (new_block_turn call arena raw l d).answer ≢ ok → (new_block_turn call arena raw l d).block ≡ None
+decision_keeps call arena raw l too_great ne = refl
+decision_keeps call arena raw l (faults found) ne = refl
+decision_keeps call arena raw l asks ne =
+    let room = room_for l (request call.letter call.size) arena raw in
+    new_keeps call room.home room.layout ne
 
-pub malloc_keeps : (v : Letter) (n fill : ℕ) (locked : Bool) (arena : Grant) (raw : Ask) (l : Layout) (now : Option Block) → (malloc_turn v n fill locked arena raw l now).answer ≢ ok → (malloc_turn v n fill locked arena raw l now).block ≡ now
-malloc_keeps v n fill locked arena raw l None ne = decision_keeps v n fill arena raw l (decision v n locked None) ne
-malloc_keeps v n fill locked arena raw l (Some block) ne = refl
+move_keeps : (call : SizedCall) (block : Block) (home : Option Home) (l : Layout) → (move_block call block home l).answer ≢ ok → (move_block call block home l).block ≡ Some block
+move_keeps call block None l ne = refl
+move_keeps call block (Some home) l ne = absurd (ne refl)
+
+change_keeps : (call : SizedCall) (arena : Grant) (raw : Ask) (l : Layout) (block : Block) (d : Decision) → (change_turn call arena raw l block d).answer ≢ ok → (change_turn call arena raw l block d).block ≡ Some block
+change_keeps call arena raw l block too_great ne = refl
+change_keeps call arena raw l block (faults found) ne = refl
+change_keeps call arena raw l block asks ne = by (stays_in_place block (need call.size)) ne
+  where
+    by : (b : Bool) → (change_by call arena raw l block b).answer ≢ ok → (change_by call arena raw l block b).block ≡ Some block
+    by true ne = absurd (ne refl)
+    by false ne =
+        let room = room_for l (request_to_move call block) arena raw in
+        move_keeps call block room.home room.layout ne
+
+pub sized_keeps : (call : SizedCall) (locked : Bool) (arena : Grant) (raw : Ask) (l : Layout) (now : Option Block) → (sized_turn call locked arena raw l now).answer ≢ ok → (sized_turn call locked arena raw l now).block ≡ now
+sized_keeps call locked arena raw l None ne = decision_keeps call arena raw l (came_to call locked None) ne
+sized_keeps call locked arena raw l (Some block) ne = by call.goes_on ne
+  where
+    changed : Turn
+    changed = change_turn call arena raw l block (came_to call locked (Some block))
+
+    by : (b : Bool) → (cond b changed (turn_to (Some block) l busy)).answer ≢ ok → (cond b changed (turn_to (Some block) l busy)).block ≡ Some block
+    by true ne = change_keeps call arena raw l block (came_to call locked (Some block)) ne
+    by false ne = refl
 
 pub free_keeps : (o : Option Fault) (l : Layout) (now : Option Block) → (free_unless o l now).answer ≢ ok → (free_unless o l now).block ≡ now
 free_keeps None l None ne = refl

@@ -5,21 +5,22 @@ use Rattle.mem_base.specs.declared.history.Grant.{Grant}
 use Rattle.mem_base.specs.declared.history.Ask.{Ask}
 use Rattle.mem_base.specs.declared.history.Entry.{Entry}
 use Rattle.mem_base.specs.declared.reply.Fault.{Fault}
-use Rattle.mem_base.specs.declared.trace.Letter.{Letter}
-use Rattle.trace_model.specs.Plain.{Action, malloc, free, PlainTrack}
-use Rattle.block_model.specs.Block.{fresh, new_byte}
+use Rattle.trace_model.specs.Plain.{Action, free, PlainTrack}
+use Rattle.block_model.specs.Block.{Body, fresh}
 use Rattle.layout_model.specs.Layout.{Layout}
+use Rattle.layout_model.specs.Sizes.{need}
 use Rattle.map_model.specs.Map.{find}
 use Rattle.map_model.proofs.CallerLemmas.{find-hold_same}
-use Rattle.request_model.specs.Decision.{Decision, too_great, faults, asks, call_fault, decision, request}
+use Rattle.request_model.specs.Decision.{Decision, too_great, faults, asks, call_fault, request}
 use Rattle.event_model.specs.Blocks.{Home, Block}
 use Rattle.event_model.specs.Effects.{effect}
 use Rattle.event_model.specs.Events.{event, event_of, settle, advance, next_action}
-use Rattle.event_model.specs.Laws.{OtherNamesKeepTheirs, OnlyOkChangesBlocks, MallocGives, FreeTakes}
-use Rattle.event_model.specs.Memory.{room_for, new_block, new_block_turn, malloc_turn, finding_of, free_unless}
-use Rattle.event_model.specs.Replies.{PlainReply, ok, is_fault}
+use Rattle.event_model.specs.Laws.{OtherNamesKeepTheirs, OnlyOkChangesBlocks, CallsGive, FreeTakes}
+use Rattle.event_model.specs.Memory.{Turn, turn_to, room_for, finding_of, SizedCall, came_to, block_made, new_block, new_block_turn, stays_in_place, request_to_move, changed_body, given_body, move_block, change_turn, sized_turn, free_unless}
+use Rattle.event_model.specs.Replies.{PlainReply, ok, busy, is_fault}
 use Rattle.event_model.specs.State.{Held, State, is_owner}
-use Rattle.event_model.proofs.EffectLaws.{effect_keeps_others, effect_keeps_unless_ok, reply_of}
+use Rattle.event_model.proofs.EffectLaws.{effect_keeps_others, effect_keeps_unless_ok, reply_of, sized_is}
+use Rattle.event_model.proofs.LayoutLaws.{change_by}
 use Rattle.event_model.proofs.NullLaws.{fault_in_is}
 
 -- ---- what each name holds, unless its block is worked on or the answer is ok
@@ -57,31 +58,62 @@ ok_leaves tracks s e a name is answer =
     ap (λ (o : Option Action). find (event_of tracks s e.track e.arena e.raw o).0.held.blocks name) is
     ∙ ap (λ (b : Bool). find (cond b (record s { faulted = true }) (advance tracks e.track s r.0)).held.blocks name) none
 
--- a name holds a new block
-abbrev HoldsNew : Letter → ℕ → ℕ → Option Block → Type 0
-HoldsNew v n fill o = (home : Home) × (o ≡ Some (record { body = fresh v n fill; home = home }))
+-- a block with this body is held
+abbrev HoldsBody : Body → Option Block → Type 0
+HoldsBody body o = (block : Block) × (o ≡ Some block) × (block.body ≡ body)
 
-new_held : (v : Letter) (n fill : ℕ) (home : Option Home) (l : Layout) → (new_block v n fill home l).answer ≡ ok → HoldsNew v n fill (new_block v n fill home l).block
-new_held v n fill None l answer = absurd cc
-new_held v n fill (Some home) l answer = (home, refl)
+new_gives : (call : SizedCall) (home : Option Home) (l : Layout) → (new_block call home l).answer ≡ ok → HoldsBody (fresh call.letter call.size call.fill) (new_block call home l).block
+new_gives call None l answer = absurd cc
+new_gives call (Some home) l answer = (block_made call (fresh call.letter call.size call.fill) home, refl, refl)
 
-decision_held : (v : Letter) (n fill : ℕ) (arena : Grant) (raw : Ask) (l : Layout) (d : Decision) → (new_block_turn v n fill arena raw l d).answer ≡ ok → HoldsNew v n fill (new_block_turn v n fill arena raw l d).block
-decision_held v n fill arena raw l too_great answer = absurd cc
-decision_held v n fill arena raw l (faults found) answer = absurd cc
-decision_held v n fill arena raw l asks answer =
-    let room = room_for l (request v n) arena raw in
-    new_held v n fill room.home room.layout answer
+decision_gives : (call : SizedCall) (arena : Grant) (raw : Ask) (l : Layout) (d : Decision) → (new_block_turn call arena raw l d).answer ≡ ok
+    → HoldsBody (fresh call.letter call.size call.fill) (new_block_turn call arena raw l d).block
+decision_gives call arena raw l too_great answer = absurd cc
+decision_gives call arena raw l (faults found) answer = absurd cc
+decision_gives call arena raw l asks answer =
+    let room = room_for l (request call.letter call.size) arena raw in
+    new_gives call room.home room.layout answer
 
-malloc_held : (v : Letter) (n fill : ℕ) (locked : Bool) (arena : Grant) (raw : Ask) (l : Layout) (now : Option Block) → (malloc_turn v n fill locked arena raw l now).answer ≡ ok → HoldsNew v n fill (malloc_turn v n fill locked arena raw l now).block
-malloc_held v n fill locked arena raw l None answer = decision_held v n fill arena raw l (decision v n locked None) answer
-malloc_held v n fill locked arena raw l (Some block) answer = absurd cc
+move_gives : (call : SizedCall) (block : Block) (home : Option Home) (l : Layout) → (move_block call block home l).answer ≡ ok → HoldsBody (changed_body call block) (move_block call block home l).block
+move_gives call block None l answer = absurd cc
+move_gives call block (Some home) l answer = (block_made call (changed_body call block) home, refl, refl)
 
-pub malloc_gives : MallocGives
-malloc_gives tracks s e v name n is answer =
+change_gives : (call : SizedCall) (arena : Grant) (raw : Ask) (l : Layout) (block : Block) (d : Decision) → (change_turn call arena raw l block d).answer ≡ ok
+    → HoldsBody (changed_body call block) (change_turn call arena raw l block d).block
+change_gives call arena raw l block too_great answer = absurd cc
+change_gives call arena raw l block (faults found) answer = absurd (true≢false (sym (fault_in_is block.body found) ∙ ap is_fault answer))
+change_gives call arena raw l block asks answer = by (stays_in_place block (need call.size)) answer
+  where
+    by : (b : Bool) → (change_by call arena raw l block b).answer ≡ ok → HoldsBody (changed_body call block) (change_by call arena raw l block b).block
+    by true answer = (record block { body = changed_body call block }, refl, refl)
+    by false answer =
+        let room = room_for l (request_to_move call block) arena raw in
+        move_gives call block room.home room.layout answer
+
+sized_gives : (call : SizedCall) (locked : Bool) (arena : Grant) (raw : Ask) (l : Layout) (now : Option Block) → (sized_turn call locked arena raw l now).answer ≡ ok
+    → HoldsBody (given_body call now) (sized_turn call locked arena raw l now).block
+sized_gives call locked arena raw l None answer = decision_gives call arena raw l (came_to call locked None) answer
+sized_gives call locked arena raw l (Some block) answer = by call.goes_on answer
+  where
+    changed : Turn
+    changed = change_turn call arena raw l block (came_to call locked (Some block))
+
+    by : (b : Bool) → (cond b changed (turn_to (Some block) l busy)).answer ≡ ok → HoldsBody (changed_body call block) (cond b changed (turn_to (Some block) l busy)).block
+    by true answer = change_gives call arena raw l block (came_to call locked (Some block)) answer
+    by false answer = absurd cc
+
+pub calls_give : CallsGive
+calls_give tracks s e a name call is named sized answer =
     let h = s.held in
-    let turn = malloc_turn v n new_byte (is_owner h.owner e.track) e.arena e.raw h.layout (find h.blocks name) in
-    let held = malloc_held v n new_byte (is_owner h.owner e.track) e.arena e.raw h.layout (find h.blocks name) (sym (reply_of tracks s e (malloc v name n) is) ∙ answer) in
-    (held.0, ok_leaves tracks s e (malloc v name n) name is answer ∙ find-hold_same h.blocks name turn.block ∙ held.1)
+    let now = find h.blocks name in
+    let turn = sized_turn call (is_owner h.owner e.track) e.arena e.raw h.layout now in
+    let same = sized_is h e.track a e.arena e.raw name call named sized in
+    let ok_is : turn.answer ≡ ok = ap (λ (r : Held × PlainReply). r.1) (sym same) ∙ sym (reply_of tracks s e a is) ∙ answer in
+    let held = sized_gives call (is_owner h.owner e.track) e.arena e.raw h.layout now ok_is in (
+      held.0,
+      ok_leaves tracks s e a name is answer ∙ ap (λ (r : Held × PlainReply). find r.0.blocks name) same ∙ find-hold_same h.blocks name turn.block ∙ held.1,
+      held.2,
+    )
 
 free_held : (o : Option Fault) (l : Layout) (now : Option Block) → (free_unless o l now).answer ≡ ok → (free_unless o l now).block ≡ None
 free_held None l None answer = refl

@@ -2,12 +2,10 @@
 use Rattle.std.proofs.Common.{◌≡◌, ℕ, ◌<◌, ◌≤◌, Bool, true, false, cond, Option, Some, None, IsNone, List, refl, sym, ap, ◌∙◌, inl, inr, ◌⊎◌, true≢false, arith}
 use Rattle.std.specs.Prelude.{length, not, ◌||◌}
 use Rattle.std.proofs.lemmas.Bool.Decides.{leb_tells}
-use Rattle.mem_base.specs.Name.{Name}
 use Rattle.mem_base.specs.declared.history.Grant.{Grant}
 use Rattle.mem_base.specs.declared.history.Grant.TheVariants as grant
 use Rattle.mem_base.specs.declared.history.Ask.{Ask}
 use Rattle.mem_base.specs.declared.history.Ask.TheVariants as ask
-use Rattle.mem_base.specs.declared.history.Entry.{Entry}
 use Rattle.mem_base.specs.declared.reply.Fault.{Fault}
 use Rattle.mem_base.specs.declared.reply.Fault.TheVariants.{Unlocked, BadId, BadLead, BadTail}
 use Rattle.mem_base.specs.declared.trace.Letter.{Letter}
@@ -17,17 +15,16 @@ use Rattle.layout_model.specs.Asks.{Request, FitsRequest, is_refused, raw_was_as
 use Rattle.layout_model.specs.Asks.Request.{FromPools, FromRaw, NoRequest}
 use Rattle.layout_model.specs.Layout.{Layout}
 use Rattle.layout_model.specs.Place.{place}
-use Rattle.layout_model.specs.Sizes.{is_small, class_of}
+use Rattle.layout_model.specs.Sizes.{is_small, class_of, need}
 use Rattle.layout_model.proofs.CallerLemmas.{only_refusals_place_nothing, requests_fit_their_class}
-use Rattle.map_model.specs.Map.{find}
-use Rattle.request_model.specs.Decision.{Decision, too_great, faults, asks, call_fault, decision, request, request_after, is_unlocked, max_size, max_data}
+use Rattle.request_model.specs.Decision.{Decision, too_great, faults, asks, request, request_after, max_size, max_data}
 use Rattle.request_model.proofs.CallerLemmas.{Decides, over_all, faulty, over_data, within, decides}
-use Rattle.event_model.specs.Blocks.{Home, Block}
-use Rattle.event_model.specs.Laws.{IsNullMalloc}
+use Rattle.event_model.specs.Blocks.{Home, Block, is_pooled}
 use Rattle.event_model.specs.Lock.{acquire_turn, release_turn}
-use Rattle.event_model.specs.Memory.{Turn, turn_to, Room, raw_home, pool_home, small_room, room_for, new_block, new_block_turn, malloc_turn, free_unless, poke_turn, peek_turn, malloc_request}
-use Rattle.event_model.specs.Replies.{PlainReply, ok, null, held, not_held, outside, bytes, fault_in, is_fault}
-use Rattle.event_model.specs.State.{Held, is_owner}
+use Rattle.event_model.specs.Memory.{Turn, turn_to, Room, raw_home, pool_home, small_room, room_for, finding_of, SizedCall, fault_of, came_to, is_busy, new_block, new_block_turn, stays_in_place, move_request, request_to_move, move_block, change_turn, sized_turn, request_to_change, sized_request, free_unless, poke_turn, peek_turn}
+use Rattle.event_model.specs.Replies.{PlainReply, ok, null, busy, held, not_held, outside, bytes, fault_in, is_fault}
+use Rattle.event_model.specs.State.{is_owner}
+use Rattle.event_model.proofs.LayoutLaws.{change_by}
 
 -- ---- turns that never answer null
 
@@ -140,69 +137,118 @@ request_asks Raw n is = absurd cc
 request_asks Mem n is = absurd cc
 request_asks Obj n is = absurd cc
 
-null_no_room : (v : Letter) (n fill : ℕ) (home : Option Home) (l : Layout) → (new_block v n fill home l).answer ≡ null → home ≡ None
-null_no_room v n fill None l h = refl
-null_no_room v n fill (Some home) l h = absurd cc
-
--- a call without a block has a fault exactly where it lacks the lock
-has_lock : (v : Letter) (locked : Bool) → call_fault v locked None ≡ None → is_unlocked v locked ≡ false
-has_lock v locked none = by (is_unlocked v locked) none
+move_asks : (call : SizedCall) (block : Block) → request_to_move call block ≡ NoRequest → ⊥
+move_asks call block is = by (is_pooled block.home) is
   where
-    by : (b : Bool) → cond {A = Option Fault} b (Some Unlocked) None ≡ None → b ≡ false
-    by true none = absurd cc
-    by false none = refl
+    by : (b : Bool) → move_request b call.letter call.size ≡ NoRequest → ⊥
+    by true is = request_asks call.letter call.size is
+    by false is = absurd cc
 
-no_fault : (v : Letter) (locked : Bool) → is_unlocked v locked ≡ false → call_fault v locked None ≡ None
-no_fault v locked has = ap (λ (b : Bool). cond {A = Option Fault} b (Some Unlocked) None) has
+null_no_room : (call : SizedCall) (home : Option Home) (l : Layout) → (new_block call home l).answer ≡ null → home ≡ None
+null_no_room call None l h = refl
+null_no_room call (Some home) l h = absurd cc
 
--- why a request for a block is answered null
-why_null : (v : Letter) (n fill : ℕ) (locked : Bool) (arena : Grant) (raw : Ask) (l : Layout) (d : Decision) → Decides n (call_fault v locked None) d
-    → FitsRequest l (request_after v n d) arena raw → (new_block_turn v n fill arena raw l d).answer ≡ null
-    → (max_size < n) ⊎ ((max_data < n) × (is_unlocked v locked ≡ false)) ⊎ (raw ≡ ask.Refused)
-why_null v n fill locked arena raw l too_great (over_all great) fits h = inl great
-why_null v n fill locked arena raw l too_great (over_data great none) fits h = inr (inl (great, has_lock v locked none))
-why_null v n fill locked arena raw l (faults _) (faulty found small some) fits h = absurd cc
-why_null v n fill locked arena raw l asks (within small none) fits h =
-    let room = room_for l (request v n) arena raw in
-    inr (inr (no_room_refused l (request v n) arena raw (request_asks v n) fits (null_no_room v n fill room.home room.layout h)))
+null_no_move : (call : SizedCall) (block : Block) (home : Option Home) (l : Layout) → (move_block call block home l).answer ≡ null → home ≡ None
+null_no_move call block None l h = refl
+null_no_move call block (Some home) l h = absurd cc
 
-pub malloc_null : (h : Held) (e : Entry) (v : Letter) (name : Name) (n fill : ℕ) (o : Option Block) → find h.blocks name ≡ o
-    → FitsRequest h.layout (malloc_request v n (is_owner h.owner e.track) o) e.arena e.raw
-    → (malloc_turn v n fill (is_owner h.owner e.track) e.arena e.raw h.layout o).answer ≡ null → IsNullMalloc h e v name n
-malloc_null h e v name n fill (Some block) is fits null_is = absurd cc
-malloc_null h e v name n fill None is fits null_is =
-    let locked = is_owner h.owner e.track in
-    record { free = is; why = why_null v n fill locked e.arena e.raw h.layout (decision v n locked None) (decides v n locked None) fits null_is }
+-- ---- why a call for a block is answered null
+
+-- a size that is too great, or that leaves no room for the hooks' bytes where the call has no fault, or a refusal
+abbrev pub IsWhy : SizedCall → Option Fault → Ask → Type 0
+IsWhy call found raw = (max_size < call.size) ⊎ ((max_data < call.size) × (found ≡ None)) ⊎ (raw ≡ ask.Refused)
+
+new_why : (call : SizedCall) (found : Option Fault) (arena : Grant) (raw : Ask) (l : Layout) (d : Decision) → Decides call.size found d
+    → FitsRequest l (request_after call.letter call.size d) arena raw → (new_block_turn call arena raw l d).answer ≡ null → IsWhy call found raw
+new_why call found arena raw l too_great (over_all great) fits h = inl great
+new_why call found arena raw l too_great (over_data great none) fits h = inr (inl (great, none))
+new_why call found arena raw l (faults _) (faulty which small some) fits h = absurd cc
+new_why call found arena raw l asks (within small none) fits h =
+    let room = room_for l (request call.letter call.size) arena raw in
+    inr (inr (no_room_refused l (request call.letter call.size) arena raw (request_asks call.letter call.size) fits (null_no_room call room.home room.layout h)))
+
+change_why : (call : SizedCall) (found : Option Fault) (arena : Grant) (raw : Ask) (l : Layout) (block : Block) (d : Decision) → Decides call.size found d
+    → FitsRequest l (request_to_change call block d) arena raw → (change_turn call arena raw l block d).answer ≡ null → IsWhy call found raw
+change_why call found arena raw l block too_great (over_all great) fits h = inl great
+change_why call found arena raw l block too_great (over_data great none) fits h = inr (inl (great, none))
+change_why call found arena raw l block (faults _) (faulty which small some) fits h = absurd (true≢false (sym (fault_in_is block.body which) ∙ ap is_fault h))
+change_why call found arena raw l block asks (within small none) fits h = by (stays_in_place block (need call.size)) fits h
+  where
+    by : (b : Bool) → FitsRequest l (cond b NoRequest (request_to_move call block)) arena raw → (change_by call arena raw l block b).answer ≡ null → IsWhy call found raw
+    by true fits h = absurd cc
+    by false fits h =
+        let room = room_for l (request_to_move call block) arena raw in
+        inr (inr (no_room_refused l (request_to_move call block) arena raw (move_asks call block) fits (null_no_move call block room.home room.layout h)))
+
+pub sized_why : (call : SizedCall) (locked : Bool) (arena : Grant) (raw : Ask) (l : Layout) (o : Option Block) → FitsRequest l (sized_request call locked o) arena raw
+    → (sized_turn call locked arena raw l o).answer ≡ null → (is_busy call o ≡ false) × IsWhy call (fault_of call locked o) raw
+sized_why call locked arena raw l None fits h =
+    (refl, new_why call (fault_of call locked None) arena raw l (came_to call locked None) (decides call.letter call.size locked None) fits h)
+sized_why call locked arena raw l (Some block) fits h = by call.goes_on fits h
+  where
+    d : Decision
+    d = came_to call locked (Some block)
+
+    by : (b : Bool) → FitsRequest l (cond b (request_to_change call block d) NoRequest) arena raw → (cond b (change_turn call arena raw l block d) (turn_to (Some block) l busy)).answer ≡ null
+        → (not b ≡ false) × IsWhy call (fault_of call locked (Some block)) raw
+    by true fits h =
+        (refl, change_why call (fault_of call locked (Some block)) arena raw l block d (decides call.letter call.size locked (finding_of call.letter (Some block))) fits h)
+    by false fits h = absurd cc
 
 -- ---- the other way
 
-null_asked : (v : Letter) (n fill : ℕ) (arena : Grant) (raw : Ask) (l : Layout) → FitsRequest l (request v n) arena raw → raw ≡ ask.Refused → (new_block_turn v n fill arena raw l asks).answer ≡ null
-null_asked v n fill arena raw l fits is =
-    let layout = (room_for l (request v n) arena raw).layout in
-    ap (λ (home : Option Home). (new_block v n fill home layout).answer) (refused_no_room l (request v n) arena raw fits is)
-
 -- a fault, where the size is too great or the raw source refused, has come before either
-faulty_not : (v : Letter) (n : ℕ) (locked : Bool) (raw : Ask) (found : Fault) → n ≤ max_size → call_fault v locked None ≡ Some found → raw_was_asked raw ≡ false
-    → (max_size < n) ⊎ ((max_data < n) × (is_unlocked v locked ≡ false)) ⊎ (raw ≡ ask.Refused) → ⊥
-faulty_not v n locked raw found small some unasked why = elim why [
+faulty_not : (call : SizedCall) (found : Option Fault) (raw : Ask) (which : Fault) → call.size ≤ max_size → found ≡ Some which → raw_was_asked raw ≡ false → IsWhy call found raw → ⊥
+faulty_not call found raw which small some unasked why = elim why [
   | inl great ↦ absurd (omega arith)
   | inr rest ↦
       elim rest [
-        | inl greater ↦ let none : None ≡ Some found = sym (no_fault v locked greater.1) ∙ some in absurd cc
+        | inl greater ↦ let none : None ≡ Some which = sym greater.1 ∙ some in absurd cc
         | inr refused ↦ absurd (true≢false (ap raw_was_asked (sym refused) ∙ unasked))
       ]
 ]
 
-within_why : (n : ℕ) (v : Letter) (locked : Bool) (raw : Ask) → n ≤ max_data → (max_size < n) ⊎ ((max_data < n) × (is_unlocked v locked ≡ false)) ⊎ (raw ≡ ask.Refused) → raw ≡ ask.Refused
-within_why n v locked raw small why = elim why [
+within_why : (call : SizedCall) (found : Option Fault) (raw : Ask) → call.size ≤ max_data → IsWhy call found raw → raw ≡ ask.Refused
+within_why call found raw small why = elim why [
   | inl great ↦ absurd (omega arith)
   | inr rest ↦ elim rest [ inl greater ↦ absurd (omega (arith, greater.0)) | inr refused ↦ refused ]
 ]
 
-pub null_decided : (v : Letter) (n fill : ℕ) (locked : Bool) (arena : Grant) (raw : Ask) (l : Layout) (d : Decision) → Decides n (call_fault v locked None) d
-    → FitsRequest l (request_after v n d) arena raw
-    → (max_size < n) ⊎ ((max_data < n) × (is_unlocked v locked ≡ false)) ⊎ (raw ≡ ask.Refused) → (new_block_turn v n fill arena raw l d).answer ≡ null
-null_decided v n fill locked arena raw l too_great (over_all great) fits why = refl
-null_decided v n fill locked arena raw l too_great (over_data great none) fits why = refl
-null_decided v n fill locked arena raw l (faults _) (faulty found small some) fits why = absurd (faulty_not v n locked raw found small some fits.raw_asked why)
-null_decided v n fill locked arena raw l asks (within small none) fits why = null_asked v n fill arena raw l fits (within_why n v locked raw small why)
+new_null : (call : SizedCall) (found : Option Fault) (arena : Grant) (raw : Ask) (l : Layout) (d : Decision) → Decides call.size found d
+    → FitsRequest l (request_after call.letter call.size d) arena raw → IsWhy call found raw → (new_block_turn call arena raw l d).answer ≡ null
+new_null call found arena raw l too_great (over_all great) fits why = refl
+new_null call found arena raw l too_great (over_data great none) fits why = refl
+new_null call found arena raw l (faults _) (faulty which small some) fits why = absurd (faulty_not call found raw which small some fits.raw_asked why)
+new_null call found arena raw l asks (within small none) fits why =
+    let r = request call.letter call.size in
+    let layout = (room_for l r arena raw).layout in
+    ap (λ (home : Option Home). (new_block call home layout).answer) (refused_no_room l r arena raw fits (within_why call found raw small why))
+
+change_null : (call : SizedCall) (found : Option Fault) (arena : Grant) (raw : Ask) (l : Layout) (block : Block) (d : Decision) → Decides call.size found d
+    → FitsRequest l (request_to_change call block d) arena raw → IsWhy call found raw → (change_turn call arena raw l block d).answer ≡ null
+change_null call found arena raw l block too_great (over_all great) fits why = refl
+change_null call found arena raw l block too_great (over_data great none) fits why = refl
+change_null call found arena raw l block (faults _) (faulty which small some) fits why = absurd (faulty_not call found raw which small some fits.raw_asked why)
+change_null call found arena raw l block asks (within small none) fits why = by (stays_in_place block (need call.size)) fits
+  where
+    refused : raw ≡ ask.Refused
+    refused = within_why call found raw small why
+
+    by : (b : Bool) → FitsRequest l (cond b NoRequest (request_to_move call block)) arena raw → (change_by call arena raw l block b).answer ≡ null
+    by true fits = absurd (true≢false (ap raw_was_asked (sym refused) ∙ fits.raw_asked))
+    by false fits =
+        let r = request_to_move call block in
+        let layout = (room_for l r arena raw).layout in
+        ap (λ (home : Option Home). (move_block call block home layout).answer) (refused_no_room l r arena raw fits refused)
+
+pub sized_null : (call : SizedCall) (locked : Bool) (arena : Grant) (raw : Ask) (l : Layout) (o : Option Block) → FitsRequest l (sized_request call locked o) arena raw
+    → is_busy call o ≡ false → IsWhy call (fault_of call locked o) raw → (sized_turn call locked arena raw l o).answer ≡ null
+sized_null call locked arena raw l None fits idle why = new_null call (fault_of call locked None) arena raw l (came_to call locked None) (decides call.letter call.size locked None) fits why
+sized_null call locked arena raw l (Some block) fits idle why = by call.goes_on fits idle
+  where
+    d : Decision
+    d = came_to call locked (Some block)
+
+    by : (b : Bool) → FitsRequest l (cond b (request_to_change call block d) NoRequest) arena raw → not b ≡ false → (cond b (change_turn call arena raw l block d) (turn_to (Some block) l busy)).answer ≡ null
+    by true fits idle = change_null call (fault_of call locked (Some block)) arena raw l block d (decides call.letter call.size locked (finding_of call.letter (Some block))) fits why
+    by false fits idle = absurd (true≢false idle)

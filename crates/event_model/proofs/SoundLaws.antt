@@ -25,7 +25,7 @@ event_sound tracks s e next sound =
     let within = small_is m small in
     let fits : FitsRequest s.held.layout (FromPools m) e.arena e.raw = subst (λ (r : Request). FitsRequest s.held.layout r e.arena e.raw) is next.fits in
     place_keeps s.held.layout (class_of m) e.arena (classes_are_least m within.0 within.1).0 (requests_fit_their_class s.held.layout m e.arena e.raw within.0 within.1 fits) sound)
-    (λ k. unplace_keeps s.held.layout k sound)
+    (λ l k here. unplace_keeps l k here)
 
 after_sound : (tracks : List PlainTrack) (s : State) (es : List Entry) → IsLegalFrom tracks s es → IsSound s.held.layout → IsSound (state_after tracks s es).held.layout
 after_sound tracks s [] legal sound = sound

@@ -80,7 +80,9 @@ event_most tracks s e =
     event_holds (HasAtMost l 1) tracks s e
     (record { given = omega arith; full = omega arith })
     (λ m is small. place_most l (class_of m) e.arena (pools_of_class l (class_of m)) l.usable)
-    (λ k. let most = unplace_most l k (get_or l.full k None) in record { given = omega (arith, most.given); full = omega (arith, most.full) })
+    (λ now k here.
+    let most = unplace_most now k (get_or now.full k None) in
+    record { given = omega (arith, most.given, here.given); full = omega (arith, most.full, here.full) })
 
 after_most : (tracks : List PlainTrack) (s : State) (es : List Entry) → HasAtMost s.held.layout (length es) (state_after tracks s es).held.layout
 after_most tracks s [] = record { given = omega arith; full = omega arith }

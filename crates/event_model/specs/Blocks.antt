@@ -1,6 +1,7 @@
 -- Blocks by name, and where each of them lies.
-use Rattle.std.specs.Prelude.{ℕ, sum_by}
+use Rattle.std.specs.Prelude.{ℕ, Bool, true, false, sum_by}
 use Rattle.block_model.specs.Block.{Body, size_of}
+use Rattle.layout_model.specs.Sizes.{class_of, size_of_class}
 use Rattle.map_model.specs.Map.{Map}
 
 -- where a block lies: in the pool with that number, or in a raw region of its own
@@ -8,13 +9,24 @@ pub data Home : Type 0 where
   in_pool : (number : ℕ) → Home
   in_raw : Home
 
--- a block: its bytes but for its size word, and where it lies
+-- a block: its bytes but for its size word, where it lies, and how many bytes of memory it has there
 pub record Block : Type 0 where
   pub body : Body
   pub home : Home
+  pub len : ℕ
 
 abbrev pub Blocks : Type 0
 Blocks = Map Block
+
+-- how many bytes of memory a block has there that asked for m: those of the pool's blocks, or a region of just m
+abbrev pub len_at : Home → ℕ → ℕ
+len_at (in_pool k) m = size_of_class (class_of m)
+len_at in_raw m = m
+
+-- it lies in a pool
+abbrev pub is_pooled : Home → Bool
+is_pooled (in_pool k) = true
+is_pooled in_raw = false
 
 -- how many bytes of data the blocks have together
 abbrev pub total_size : Blocks → ℕ

@@ -1,13 +1,12 @@
 -- All that depends on which operation comes: what it does and answers, whether it may come now, what it asks
 -- the sources for, and which requests it wants to be refused. One more operation has one more arm in each.
 -- What the operations of one family do to their own part of what is held stands in Memory, Lock and Shape.
-use Rattle.std.specs.Prelude.{ℕ, ◌+◌, Bool, true, false, not, ◌&&◌, ◌||◌, ◌==◌, Option, is_some}
+use Rattle.std.specs.Prelude.{ℕ, ◌+◌, Bool, true, false, not, ◌&&◌, ◌||◌, ◌==◌, Option, Some, None, is_some}
 use Rattle.mem_base.specs.Name.{Name}
 use Rattle.mem_base.specs.declared.history.Grant.{Grant}
 use Rattle.mem_base.specs.declared.history.Ask.{Ask}
 use Rattle.mem_base.specs.declared.trace.Side.{Side}
 use Rattle.mem_base.specs.declared.trace.Side.TheVariants as side
-use Rattle.block_model.specs.Block.{new_byte}
 use Rattle.layout_model.specs.Asks.{Request}
 use Rattle.layout_model.specs.Asks.Request.{NoRequest}
 use Rattle.layout_model.specs.Layout.{Layout}
@@ -15,7 +14,7 @@ use Rattle.map_model.specs.Map.{find, hold}
 use Rattle.trace_model.specs.Plain.{Action, acquire, release, malloc, free, poke, peek, heap, refuse, other}
 use Rattle.event_model.specs.Blocks.{Block}
 use Rattle.event_model.specs.Lock.{acquire_turn, release_turn}
-use Rattle.event_model.specs.Memory.{Turn, malloc_turn, free_turn, poke_turn, peek_turn, malloc_request}
+use Rattle.event_model.specs.Memory.{SizedCall, Turn, free_turn, malloc_call, peek_turn, poke_turn, sized_request, sized_turn}
 use Rattle.event_model.specs.Replies.{PlainReply, ok, shape, unsaid}
 use Rattle.event_model.specs.Shape.{heap_view}
 use Rattle.event_model.specs.State.{Held, is_owner}
@@ -28,6 +27,10 @@ on_block h name f =
     let turn = f h.layout (find h.blocks name) in
     (record h { blocks = hold h.blocks name turn.block; layout = turn.layout }, turn.answer)
 
+-- a call of track t for a block, on what the name holds and on the layout
+abbrev pub on_sized : Held → ℕ → Name → SizedCall → Grant → Ask → Held × PlainReply
+on_sized h t name call arena raw = on_block h name (sized_turn call (is_owner h.owner t) arena raw)
+
 -- an operation on the owner of the lock
 abbrev pub on_lock : Held → (Option ℕ → Option ℕ × PlainReply) → Held × PlainReply
 on_lock h f = let turn = f h.owner in (record h { owner = turn.0 }, turn.1)
@@ -36,8 +39,7 @@ on_lock h f = let turn = f h.owner in (record h { owner = turn.0 }, turn.1)
 abbrev pub effect : Held → ℕ → Action → Grant → Ask → Held × PlainReply
 effect h t acquire arena raw = on_lock h (acquire_turn t)
 effect h t release arena raw = on_lock h (release_turn t)
-effect h t (malloc v name n) arena raw =
-    on_block h name (malloc_turn v n new_byte (is_owner h.owner t) arena raw)
+effect h t (malloc v name n) arena raw = on_sized h t name (malloc_call v n) arena raw
 effect h t (free v name) arena raw = on_block h name (free_turn v (is_owner h.owner t))
 effect h t (poke name offset new) arena raw = on_block h name (poke_turn offset new)
 effect h t (peek name offset count) arena raw = on_block h name (peek_turn offset count)
@@ -65,17 +67,35 @@ may_do_next owner t other = true
 
 -- ---- what it asks for
 
+-- what a call of track t for a block asks for
+abbrev pub sized_for : Held → ℕ → Name → SizedCall → Request
+sized_for h t name call = sized_request call (is_owner h.owner t) (find h.blocks name)
+
 -- what an operation of track t asks the sources for
 abbrev pub request_of : Held → ℕ → Action → Request
 request_of h t acquire = NoRequest
 request_of h t release = NoRequest
-request_of h t (malloc v name n) = malloc_request v n (is_owner h.owner t) (find h.blocks name)
+request_of h t (malloc v name n) = sized_for h t name (malloc_call v n)
 request_of h t (free v name) = NoRequest
 request_of h t (poke name offset new) = NoRequest
 request_of h t (peek name offset count) = NoRequest
 request_of h t heap = NoRequest
 request_of h t (refuse side k) = NoRequest
 request_of h t other = NoRequest
+
+-- ---- its call for a block
+
+-- the call for a block that it is, where it is one
+abbrev pub sized_call : Action → Option SizedCall
+sized_call acquire = None
+sized_call release = None
+sized_call (malloc v name n) = Some (malloc_call v n)
+sized_call (free v name) = None
+sized_call (poke name offset new) = None
+sized_call (peek name offset count) = None
+sized_call heap = None
+sized_call (refuse side k) = None
+sized_call other = None
 
 -- ---- which requests it wants to be refused
 

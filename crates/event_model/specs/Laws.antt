@@ -7,16 +7,17 @@ use Rattle.mem_base.specs.declared.history.Ask.TheVariants.{Refused}
 use Rattle.mem_base.specs.declared.trace.Letter.{Letter}
 use Rattle.mem_base.specs.declared.trace.Side.{Side}
 use Rattle.mem_base.specs.Name.{Name}
-use Rattle.trace_model.specs.Plain.{Action, acquire, malloc, free, PlainTrack, name_of}
+use Rattle.trace_model.specs.Plain.{Action, acquire, free, PlainTrack, name_of}
 use Rattle.trace_model.specs.Spelling.{action_count}
 use Rattle.layout_model.specs.Sound.{IsSound}
 use Rattle.map_model.specs.Map.{find}
 use Rattle.request_model.specs.Counts.{asked_in, asks_in, refusals_in}
-use Rattle.request_model.specs.Decision.{max_size, max_data, is_unlocked}
-use Rattle.block_model.specs.Block.{fresh, new_byte}
-use Rattle.event_model.specs.Blocks.{Home}
+use Rattle.request_model.specs.Decision.{max_data, max_size}
+use Rattle.event_model.specs.Blocks.{Block}
+use Rattle.event_model.specs.Effects.{sized_call}
 use Rattle.event_model.specs.Events.{event, is_ready, left_in, next_action, ops_left}
 use Rattle.event_model.specs.History.{IsNext, IsLegal, IsDone, EndsInFault, last_state}
+use Rattle.event_model.specs.Memory.{SizedCall, fault_of, given_body, is_busy}
 use Rattle.event_model.specs.Plans.{GrowsBy, Heeds, is_planned, lists}
 use Rattle.event_model.specs.Replies.{ok, null, is_fault}
 use Rattle.event_model.specs.Schedule.{one_by_one, Takes, FollowsTo, Follows, runs, NeighboursDiffer}
@@ -75,12 +76,14 @@ abbrev pub OnlyOkChangesBlocks : Type 0
 OnlyOkChangesBlocks = (tracks : List PlainTrack) (s : State) (e : Entry) (name : Name)
     → (event tracks s e).1 ≢ ok → find (event tracks s e).0.held.blocks name ≡ find s.held.blocks name
 
--- a name into which malloc answers ok holds a new block of those bytes
-abbrev pub MallocGives : Type 0
-MallocGives = (tracks : List PlainTrack) (s : State) (e : Entry) (v : Letter) (name : Name) (n : ℕ)
-    → next_action tracks s e.track ≡ Some (malloc v name n) → (event tracks s e).1 ≡ ok
-    → (home : Home)
-    × (find (event tracks s e).0.held.blocks name ≡ Some (record { body = fresh v n new_byte; home = home }))
+-- a name for which a call for a block answers ok holds one: a new one where it held nothing, and else that block
+-- with the bytes that it is to have
+abbrev pub CallsGive : Type 0
+CallsGive = (tracks : List PlainTrack) (s : State) (e : Entry) (a : Action) (name : Name) (call : SizedCall)
+    → next_action tracks s e.track ≡ Some a → name_of a ≡ Some name → sized_call a ≡ Some call
+    → (event tracks s e).1 ≡ ok
+    → (block : Block) × (find (event tracks s e).0.held.blocks name ≡ Some block)
+    × (block.body ≡ given_body call (find s.held.blocks name))
 
 -- a name of which free answers ok holds nothing
 abbrev pub FreeTakes : Type 0
@@ -157,20 +160,25 @@ OneMoreHeeds = (side : Side) (asked : ℕ) (es : List Entry) (e : Entry) (more :
 
 -- ---- null
 
--- Why malloc answers null: the name is free, and the size is too great, or it leaves no room for the hooks'
--- bytes and the call has the lock that it needs, or the raw source refused.
-pub record IsNullMalloc (h : Held) (e : Entry) (v : Letter) (name : Name) (n : ℕ) : Type 0 where
-  pub free : find h.blocks name ≡ None
-  pub why : (max_size < n)
-      ⊎ ((max_data < n) × (is_unlocked v (is_owner h.owner e.track) ≡ false))
+-- Why a call for a block answers null: it is not busy, and its size is too great, or leaves no room for the hooks'
+-- bytes and the call has neither the fault of a missing lock nor that of a damaged block, or the raw source refused.
+pub record IsNullCall (h : Held) (e : Entry) (name : Name) (call : SizedCall) : Type 0 where
+  pub idle : is_busy call (find h.blocks name) ≡ false
+  pub why : (max_size < call.size)
+      ⊎ ((max_data < call.size) × (fault_of call (is_owner h.owner e.track) (find h.blocks name) ≡ None))
       ⊎ (e.raw ≡ Refused)
 
--- the next event is a malloc that answers null
-abbrev pub IsNull : List PlainTrack → State → Entry → Type 0
-IsNull tracks s e = (v : Letter) × (name : Name) × (n : ℕ)
-    × (next_action tracks s e.track ≡ Some (malloc v name n)) × IsNullMalloc s.held e v name n
+-- the next event is a call for a block that answers null
+pub record IsNull (tracks : List PlainTrack) (s : State) (e : Entry) : Type 0 where
+  pub action : Action
+  pub next : next_action tracks s e.track ≡ Some action
+  pub name : Name
+  pub named : name_of action ≡ Some name
+  pub call : SizedCall
+  pub sized : sized_call action ≡ Some call
+  pub null : IsNullCall s.held e name call
 
--- an event answers null exactly where it is such a malloc
+-- an event answers null exactly where it is such a call
 abbrev pub NullExactly : Type 0
 NullExactly = (tracks : List PlainTrack) (s : State) (e : Entry)
     → IsNext tracks s e → ((event tracks s e).1 ≡ null) ↔ IsNull tracks s e

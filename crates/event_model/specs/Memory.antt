@@ -1,19 +1,20 @@
--- The memory operations: what malloc, free, poke and peek do to the block of one name and to the layout.
-use Rattle.std.specs.Prelude.{ℕ, ℤ, Bool, if◌then◌else◌, List, length, Option, Some, None}
+-- The memory operations: what malloc, calloc, realloc, free, poke and peek do to the block of one name and to the
+-- layout.
+use Rattle.std.specs.Prelude.{ℕ, ◌*◌, ℤ, Bool, true, false, not, ◌&&◌, nat_le, nat_lt, if◌then◌else◌, List, length, Option, Some, None}
 use Rattle.mem_base.specs.declared.trace.Letter.{Letter}
 use Rattle.mem_base.specs.declared.history.Grant.{Grant}
 use Rattle.mem_base.specs.declared.history.Ask.{Ask}
 use Rattle.mem_base.specs.declared.history.Ask.TheVariants.{NotAsked, Refused, Granted}
 use Rattle.mem_base.specs.declared.reply.Fault.{Fault}
-use Rattle.block_model.specs.Block.{fresh, finding_in, reaches, peeked, poked}
+use Rattle.block_model.specs.Block.{Body, finding_in, fresh, new_byte, peeked, poked, reaches, resized}
 use Rattle.layout_model.specs.Asks.{Request}
 use Rattle.layout_model.specs.Asks.Request.{FromPools, FromRaw, NoRequest}
 use Rattle.layout_model.specs.Layout.{Layout}
 use Rattle.layout_model.specs.Place.{Placed, place}
-use Rattle.layout_model.specs.Sizes.{is_small, class_of}
+use Rattle.layout_model.specs.Sizes.{class_of, is_small, need}
 use Rattle.layout_model.specs.Unplace.{unplace}
 use Rattle.request_model.specs.Decision.{Decision, too_great, faults, asks, call_fault, decision, request, request_after}
-use Rattle.event_model.specs.Blocks.{Home, in_pool, in_raw, Block}
+use Rattle.event_model.specs.Blocks.{Home, in_pool, in_raw, Block, is_pooled, len_at}
 use Rattle.event_model.specs.Replies.{PlainReply, ok, null, busy, absent, outside, bytes, fault, fault_in}
 
 -- what a name then holds, the layout then, and the answer
@@ -62,36 +63,137 @@ abbrev pub layout_without : Layout → Home → Layout
 layout_without l (in_pool k) = unplace l k
 layout_without l in_raw = l
 
--- ---- malloc
-
--- a new block there of n bytes, each of them the fill, or null where there is no room for it
-abbrev pub new_block : Letter → ℕ → ℕ → Option Home → Layout → Turn
-new_block v n fill None l = turn_to None l null
-new_block v n fill (Some home) l = turn_to (Some (record { body = fresh v n fill; home = home })) l ok
-
--- what a call for a new block comes to, with these answers of the sources
-abbrev pub new_block_turn : Letter → ℕ → ℕ → Grant → Ask → Layout → Decision → Turn
-new_block_turn v n fill arena raw l too_great = turn_to None l null
-new_block_turn v n fill arena raw l (faults found) = turn_to None l (fault found None)
-new_block_turn v n fill arena raw l asks =
-    let room = room_for l (request v n) arena raw in new_block v n fill room.home room.layout
-
--- malloc of n bytes, each of them the fill, into a name that holds this
-abbrev pub malloc_turn : Letter → ℕ → ℕ → Bool → Grant → Ask → Layout → Option Block → Turn
-malloc_turn v n fill locked arena raw l (Some block) = turn_to (Some block) l busy
-malloc_turn v n fill locked arena raw l None = new_block_turn v n fill arena raw l (decision v n locked None)
-
--- what malloc asks the sources for: a block, where the name is free and the call comes that far
-abbrev pub malloc_request : Letter → ℕ → Bool → Option Block → Request
-malloc_request v n locked (Some block) = NoRequest
-malloc_request v n locked None = request_after v n (decision v n locked None)
-
--- ---- free
+-- ---- what a check finds
 
 -- what the check of what a name holds finds
 abbrev pub finding_of : Letter → Option Block → Option Fault
 finding_of v None = None
 finding_of v (Some block) = finding_in v block.body
+
+-- ---- malloc, calloc and realloc
+
+-- a call for a block: its domain, how many bytes of data the block is to have, what new data holds, and whether the
+-- call goes on from the block that its name holds
+pub record SizedCall : Type 0 where
+  pub letter : Letter
+  pub size : ℕ
+  pub fill : ℕ
+  pub goes_on : Bool
+
+-- its fault, on what its name holds: that it lacks the lock, or else what the check finds
+abbrev pub fault_of : SizedCall → Bool → Option Block → Option Fault
+fault_of call locked now = call_fault call.letter locked (finding_of call.letter now)
+
+-- what it comes to before any source is asked
+abbrev pub came_to : SizedCall → Bool → Option Block → Decision
+came_to call locked now = decision call.letter call.size locked (finding_of call.letter now)
+
+-- the name holds a block, and the call does not go on from it
+abbrev pub is_busy : SizedCall → Option Block → Bool
+is_busy call None = false
+is_busy call (Some block) = not call.goes_on
+
+-- the block that is made there
+abbrev pub block_made : SizedCall → Body → Home → Block
+block_made call body home = record { body = body; home = home; len = len_at home (need call.size) }
+
+-- a new block there, or null where there is no room for it
+abbrev pub new_block : SizedCall → Option Home → Layout → Turn
+new_block call None l = turn_to None l null
+new_block call (Some home) l =
+    turn_to (Some (block_made call (fresh call.letter call.size call.fill) home)) l ok
+
+-- a call for a block, into a name that holds nothing, that came to this
+abbrev pub new_block_turn : SizedCall → Grant → Ask → Layout → Decision → Turn
+new_block_turn call arena raw l too_great = turn_to None l null
+new_block_turn call arena raw l (faults found) = turn_to None l (fault found None)
+new_block_turn call arena raw l asks =
+    let room = room_for l (request call.letter call.size) arena raw in new_block call room.home room.layout
+
+-- a block of a pool whose blocks have s bytes may stay where it is for m bytes: they fit, and are more than three
+-- quarters of it
+abbrev pub fits_in_place : ℕ → ℕ → Bool
+fits_in_place s m = nat_le m s && nat_lt (3 * s) (4 * m)
+
+-- what a block that has to move to have n bytes of data asks for: one of a pool what a new block does, one of a raw
+-- region a raw region again
+abbrev pub move_request : Bool → Letter → ℕ → Request
+move_request pooled v n = if pooled then request v n else FromRaw (need n)
+
+-- a block of a pool in which m bytes fit stays where it is
+abbrev pub stays_in_place : Block → ℕ → Bool
+stays_in_place block m = is_pooled block.home && fits_in_place block.len m
+
+-- what a call asks for where its block moves
+abbrev pub request_to_move : SizedCall → Block → Request
+request_to_move call block = move_request (is_pooled block.home) call.letter call.size
+
+-- what a call that goes on from a block asks for
+abbrev pub change_request : SizedCall → Block → Request
+change_request call block =
+    if stays_in_place block (need call.size) then NoRequest else request_to_move call block
+
+-- its data after the call
+abbrev pub changed_body : SizedCall → Block → Body
+changed_body call block = resized call.letter call.size call.fill block.body
+
+-- the body that its name holds after the call, where it answers ok
+abbrev pub given_body : SizedCall → Option Block → Body
+given_body call None = fresh call.letter call.size call.fill
+given_body call (Some block) = changed_body call block
+
+-- the block moves there, and then the old one is given up; where there is no room for it, it stays
+abbrev pub move_block : SizedCall → Block → Option Home → Layout → Turn
+move_block call block None l = turn_to (Some block) l null
+move_block call block (Some home) l =
+    turn_to (Some (block_made call (changed_body call block) home)) (layout_without l block.home) ok
+
+-- the block stays where it is, or moves to the room that is found for it
+abbrev pub change_block : SizedCall → Grant → Ask → Layout → Block → Turn
+change_block call arena raw l block =
+    if stays_in_place block (need call.size)
+    then turn_to (Some (record block { body = changed_body call block })) l ok
+    else let room = room_for l (request_to_move call block) arena raw in move_block call block room.home room.layout
+
+-- a call that goes on from a block and came to this
+abbrev pub change_turn : SizedCall → Grant → Ask → Layout → Block → Decision → Turn
+change_turn call arena raw l block too_great = turn_to (Some block) l null
+change_turn call arena raw l block (faults found) = turn_to (Some block) l (fault_in block.body found)
+change_turn call arena raw l block asks = change_block call arena raw l block
+
+-- a call for a block into a name that holds this
+abbrev pub sized_turn : SizedCall → Bool → Grant → Ask → Layout → Option Block → Turn
+sized_turn call locked arena raw l None = new_block_turn call arena raw l (came_to call locked None)
+sized_turn call locked arena raw l (Some block) =
+    if call.goes_on
+    then change_turn call arena raw l block (came_to call locked (Some block))
+    else turn_to (Some block) l busy
+
+-- what a call that goes on from a block asks the sources for, by what it came to
+abbrev pub request_to_change : SizedCall → Block → Decision → Request
+request_to_change call block too_great = NoRequest
+request_to_change call block (faults found) = NoRequest
+request_to_change call block asks = change_request call block
+
+-- what a call for a block asks the sources for
+abbrev pub sized_request : SizedCall → Bool → Option Block → Request
+sized_request call locked None = request_after call.letter call.size (came_to call locked None)
+sized_request call locked (Some block) =
+    if call.goes_on then request_to_change call block (came_to call locked (Some block)) else NoRequest
+
+-- malloc of n bytes
+abbrev pub malloc_call : Letter → ℕ → SizedCall
+malloc_call v n = record { letter = v; size = n; fill = new_byte; goes_on = false }
+
+-- calloc of so many elements of n bytes: its size is their product, however great
+abbrev pub calloc_call : Letter → ℕ → ℕ → SizedCall
+calloc_call v count n = record { letter = v; size = count * n; fill = 0; goes_on = false }
+
+-- realloc to n bytes
+abbrev pub realloc_call : Letter → ℕ → SizedCall
+realloc_call v n = record { letter = v; size = n; fill = new_byte; goes_on = true }
+
+-- ---- free
 
 -- free of a name that holds this, by a call with this fault or none
 abbrev pub free_unless : Option Fault → Layout → Option Block → Turn

@@ -34,7 +34,7 @@
 //! those before it.
 #![tactic(auto)]
 
-ghost use Rattle.event_model.specs.Laws.{OneMoreIsLegal, OneMoreState, OneMoreLeavesLess, LegalIsShort, FaultsChangeNothing, OthersBringNoFault, FaultIsLast, OtherNamesKeepTheirs, OnlyOkChangesBlocks, MallocGives, FreeTakes, OnlyAcquireWaits, OwnersGoOn, NoneReadyIsAllDone, TakesOne, OneMoreFollows, RunsAreStretches, LegalFollowsItsRuns, OneMoreIsPlanned, OneMoreHeeds, NullExactly, LegalIsSound, FewAreTaken};
+ghost use Rattle.event_model.specs.Laws.{OneMoreIsLegal, OneMoreState, OneMoreLeavesLess, LegalIsShort, FaultsChangeNothing, OthersBringNoFault, FaultIsLast, OtherNamesKeepTheirs, OnlyOkChangesBlocks, CallsGive, FreeTakes, OnlyAcquireWaits, OwnersGoOn, NoneReadyIsAllDone, TakesOne, OneMoreFollows, RunsAreStretches, LegalFollowsItsRuns, OneMoreIsPlanned, OneMoreHeeds, NullExactly, LegalIsSound, FewAreTaken};
 
 /// A legal history with one more entry that may come next is legal, leads to that entry's event, and
 /// leaves less to do.
@@ -61,12 +61,12 @@ pub fn fault_is_last()
 {}
 
 /// An event leaves what all names hold but the one that its operation works on, and that one too where
-/// it answers anything but ok. Where malloc answers ok its name holds a new block, and where free does
-/// its name holds nothing.
+/// it answers anything but ok. Where a call for a block answers ok its name holds a new block, or the one
+/// that it held with as many bytes as the call says, and where free does its name holds nothing.
 pub fn names_hold_what_they_got()
     ensures others { OtherNamesKeepTheirs }
     ensures only_ok { OnlyOkChangesBlocks }
-    ensures malloc { MallocGives }
+    ensures calls { CallsGive }
     ensures free { FreeTakes }
 {}
 
@@ -99,8 +99,8 @@ pub fn one_more_request()
     ensures heeds { OneMoreHeeds }
 {}
 
-/// An event answers null exactly where it is a request for a block into a free name, and the size is
-/// too great or the raw source refused.
+/// An event answers null exactly where it is a call for a block that is not busy, and the size is too
+/// great or the raw source refused.
 pub fn null_exactly()
     ensures { NullExactly }
 {}

@@ -20,23 +20,25 @@ use Rattle.mem_base.specs.declared.trace.Letter.{Letter}
 use Rattle.mem_base.specs.declared.trace.Op.{Op}
 use Rattle.mem_base.specs.declared.trace.Op.TheVariants as ops
 use Rattle.mem_base.specs.declared.trace.Side.{Side}
-use Rattle.block_model.specs.Block.{new_byte, reaches, peeked, poked}
-use Rattle.trace_model.specs.Plain.{action_of, text_at}
+use Rattle.block_model.specs.Block.{reaches, peeked, poked}
+use Rattle.trace_model.specs.Plain.{action_of, name_of, text_at}
 use Rattle.map_model.specs.Map.{find, hold}
-use Rattle.layout_model.specs.Asks.{FitsRequest}
+use Rattle.layout_model.specs.Asks.{FitsRequest, Request}
 use Rattle.layout_model.specs.Asks.Request.{NoRequest}
 use Rattle.layout_model.specs.Layout.{Layout}
+use Rattle.layout_model.specs.Sizes.{need}
 use Rattle.layout_model.specs.View.{shape_of}
-use Rattle.request_model.specs.Decision.{Decision, too_great, faults, asks, call_fault, decision, request}
+use Rattle.request_model.specs.Decision.{Decision, too_great, faults, asks, call_fault, request}
 use Rattle.event_model.specs.Blocks.{Block, Home}
-use Rattle.event_model.specs.Effects.{effect, on_block, request_of}
+use Rattle.event_model.specs.Effects.{effect, on_block, request_of, sized_call}
 use Rattle.event_model.specs.Lock.{acquire_turn, release_turn}
-use Rattle.event_model.specs.Memory.{Turn, turn_to, room_for, new_block, new_block_turn, malloc_turn, malloc_request, finding_of, free_unless, free_turn, poke_turn, peek_turn}
-use Rattle.event_model.specs.Replies.{PlainReply, held as held_reply, not_held, ok, outside, bytes, is_fault, plain_reply}
+use Rattle.event_model.specs.Memory.{SizedCall, Turn, came_to, change_turn, changed_body, finding_of, free_turn, free_unless, malloc_call, move_block, request_to_move, new_block, new_block_turn, peek_turn, poke_turn, room_for, sized_request, stays_in_place, turn_to}
+use Rattle.event_model.specs.Replies.{PlainReply, busy, held as held_reply, not_held, ok, outside, bytes, is_fault, plain_reply}
 use Rattle.event_model.specs.State.{Held, is_owner}
+use Rattle.event_model.proofs.CallerLemmas.{sized_asks, sized_is}
 use Rattle.domain_api.specs.Domains.{not_asked}
 use Rattle.domain_api.specs.declared.answers.Asked.{Asked}
-use Rattle.block_store.specs.Store.{FitsMalloc, IsTurn, block_at, malloc_by, pooled_in, raw_in, shape_in}
+use Rattle.block_store.specs.Store.{FitsCall, IsTurn, block_at, pooled_in, raw_in, shape_in, sized_by}
 use Rattle.block_store.specs.declared.answer.Answer.{Answer}
 use Rattle.block_store.specs.declared.answer.Call.{Call}
 use Rattle.machine_core.specs.Acts.{Acts, left_by}
@@ -92,18 +94,49 @@ module _ (texts : List Name) (h : Held) (old new : Holding) (name : TextId) (f :
 
 -- ---- what a fault leaves
 
-malloc_stays : (v : Letter) (n fill : ℕ) (locked : Bool) (arena : Grant) (raw : Ask) → StaysAtFault (malloc_turn v n fill locked arena raw)
-malloc_stays v n fill locked arena raw l (Some block) fell = absurd (true≢false (sym fell))
-malloc_stays v n fill locked arena raw l None fell = by (decision v n locked None) fell
+sized_stays : (call : SizedCall) (locked : Bool) (asked : Asked) → StaysAtFault (sized_by call locked asked)
+sized_stays call locked asked l now fell = by now fell
   where
-    block_stays : (home : Option Home) (later : Layout) → is_fault (new_block v n fill home later).answer ≡ true → ((new_block v n fill home later).block ≡ None) × ((new_block v n fill home later).layout ≡ l)
-    block_stays None later fell = absurd (true≢false (sym fell))
-    block_stays (Some home) later fell = absurd (true≢false (sym fell))
+    new_stays : (home : Option Home) (later : Layout) → is_fault (new_block call home later).answer ≡ true → ((new_block call home later).block ≡ None) × ((new_block call home later).layout ≡ l)
+    new_stays None later fell = absurd (true≢false (sym fell))
+    new_stays (Some home) later fell = absurd (true≢false (sym fell))
 
-    by : (d : Decision) → is_fault (new_block_turn v n fill arena raw l d).answer ≡ true → ((new_block_turn v n fill arena raw l d).block ≡ None) × ((new_block_turn v n fill arena raw l d).layout ≡ l)
-    by too_great fell = absurd (true≢false (sym fell))
-    by (faults found) fell = (refl, refl)
-    by asks fell = block_stays (room_for l (request v n) arena raw).home (room_for l (request v n) arena raw).layout fell
+    by_new : (d : Decision) → is_fault (new_block_turn call asked.arena asked.raw l d).answer ≡ true
+        → ((new_block_turn call asked.arena asked.raw l d).block ≡ None) × ((new_block_turn call asked.arena asked.raw l d).layout ≡ l)
+    by_new too_great fell = absurd (true≢false (sym fell))
+    by_new (faults found) fell = (refl, refl)
+    by_new asks fell = let room = room_for l (request call.letter call.size) asked.arena asked.raw in new_stays room.home room.layout fell
+
+    moved_stays : (block : Block) (home : Option Home) (later : Layout) → is_fault (move_block call block home later).answer ≡ true
+        → ((move_block call block home later).block ≡ Some block) × ((move_block call block home later).layout ≡ l)
+    moved_stays block None later fell = absurd (true≢false (sym fell))
+    moved_stays block (Some home) later fell = absurd (true≢false (sym fell))
+
+    changed : Block → Bool → Turn
+    changed block b =
+        cond b (turn_to (Some (record block { body = changed_body call block })) l ok)
+        (let room = room_for l (request_to_move call block) asked.arena asked.raw in move_block call block room.home room.layout)
+
+    by_place : (block : Block) (b : Bool) → is_fault (changed block b).answer ≡ true → ((changed block b).block ≡ Some block) × ((changed block b).layout ≡ l)
+    by_place block true fell = absurd (true≢false (sym fell))
+    by_place block false fell = let room = room_for l (request_to_move call block) asked.arena asked.raw in moved_stays block room.home room.layout fell
+
+    by_change : (block : Block) (d : Decision) → is_fault (change_turn call asked.arena asked.raw l block d).answer ≡ true
+        → ((change_turn call asked.arena asked.raw l block d).block ≡ Some block) × ((change_turn call asked.arena asked.raw l block d).layout ≡ l)
+    by_change block too_great fell = absurd (true≢false (sym fell))
+    by_change block (faults found) fell = (refl, refl)
+    by_change block asks fell = by_place block (stays_in_place block (need call.size)) fell
+
+    either : Block → Bool → Turn
+    either block b = cond b (change_turn call asked.arena asked.raw l block (came_to call locked (Some block))) (turn_to (Some block) l busy)
+
+    by_going : (block : Block) (b : Bool) → is_fault (either block b).answer ≡ true → ((either block b).block ≡ Some block) × ((either block b).layout ≡ l)
+    by_going block true fell = by_change block (came_to call locked (Some block)) fell
+    by_going block false fell = absurd (true≢false (sym fell))
+
+    by : (now : Option Block) → is_fault (sized_by call locked asked l now).answer ≡ true → ((sized_by call locked asked l now).block ≡ now) × ((sized_by call locked asked l now).layout ≡ l)
+    by None fell = by_new (came_to call locked None) fell
+    by (Some block) fell = by_going block call.goes_on fell
 
 free_stays : (v : Letter) (locked : Bool) → StaysAtFault (free_turn v locked)
 free_stays v locked l now fell = by (call_fault v locked (finding_of v now)) now fell
@@ -143,23 +176,30 @@ offset_back (negsuc n) is = to_z-of_z w64 (negsuc n) (record { sfits = omega (ar
 no_request : (l : Layout) → FitsRequest l NoRequest grant.NotAsked ask.NotAsked
 no_request l = record { arena_asked = refl; raw_asked = refl; pools = tt }
 
+-- the operation is this call for a block under the name with that number
+abbrev pub IsCallFor : Op → TextId → SizedCall → Type 0
+IsCallFor op name call =
+    (texts : List Name) → (name_of (action_of texts op) ≡ Some (text_at texts name)) × (sized_call (action_of texts op) ≡ Some call)
+
 module _ (t : ℕ) (op : Op) (old new : Holding) (reply : Reply) (owned : new.owner ≡ old.owner) where
-  pub malloc_acts : (letter : Letter) (name : TextId) (n : ℕ) (call : Call) (asked : Asked) → op ≡ ops.Malloc letter name n → call ≡ record { letter = letter; locked = is_owner old.owner t }
-      → name.0 < length old.store.blocks → IsTurn name.0 (malloc_by call n asked) old.store new.store reply → FitsMalloc old.store name.0 call n asked → Acts t op old new asked reply
-  malloc_acts letter name n call asked is called lt turn fits =
-      subst (λ (o : Op). Acts t o old new asked reply) (sym is) (λ texts h distinct stands.
-      let mine : call ≡ record { letter = letter; locked = is_owner h.owner t } = called ∙ ap (λ (o : Option ℕ). record { letter = letter; locked = is_owner o t }) stands.owner in
-      let f = malloc_turn letter n new_byte (is_owner h.owner t) asked.arena asked.raw in
-      let now : IsTurn name.0 f old.store new.store reply = subst (λ (k : Call). IsTurn name.0 (malloc_by k n asked) old.store new.store reply) mine turn in
-      let fit : FitsRequest old.store.layout (malloc_request letter n (is_owner h.owner t) (block_at old.store name.0)) asked.arena asked.raw =
-      subst (λ (k : Call). FitsMalloc old.store name.0 k n asked) mine fits in
+  pub sized_acts : (name : TextId) (call : SizedCall) (locked : Bool) (asked : Asked) → IsCallFor op name call → locked ≡ is_owner old.owner t
+      → name.0 < length old.store.blocks → IsTurn name.0 (sized_by call locked asked) old.store new.store reply → FitsCall old.store name.0 call locked asked → Acts t op old new asked reply
+  sized_acts name call locked asked is owns lt turn fits = λ texts h distinct stands.
+      let a = action_of texts op in
+      let mine : locked ≡ is_owner h.owner t = owns ∙ ap (λ (o : Option ℕ). is_owner o t) stands.owner in
+      let f = sized_by call (is_owner h.owner t) asked in
+      let now : IsTurn name.0 f old.store new.store reply = subst (λ (k : Bool). IsTurn name.0 (sized_by call k asked) old.store new.store reply) mine turn in
+      let fit : FitsRequest old.store.layout (sized_request call (is_owner h.owner t) (block_at old.store name.0)) asked.arena asked.raw =
+      subst (λ (k : Bool). FitsCall old.store name.0 call k asked) mine fits in
       let there = name_holds texts old.store.blocks h.blocks name stands.blocks lt in
+      let same = sym (sized_is h t a asked.arena asked.raw (text_at texts name) call (is texts).0 (is texts).1) in
       record {
-        held = turn_left texts h old new name f reply distinct stands lt now owned (malloc_stays letter n new_byte (is_owner h.owner t) asked.arena asked.raw);
-        answer = turn_answers texts h old new name f reply distinct stands lt now owned;
-        fits = subst (λ (l : Layout). FitsRequest l (malloc_request letter n (is_owner h.owner t) (find h.blocks (text_at texts name))) asked.arena asked.raw) stands.layout
-            (subst (λ (o : Option Block). FitsRequest old.store.layout (malloc_request letter n (is_owner h.owner t) o) asked.arena asked.raw) (sym there) fit);
-      })
+        held = subst (λ (r : Held × PlainReply). StandsFor texts new (left_by h r)) same (turn_left texts h old new name f reply distinct stands lt now owned (sized_stays call (is_owner h.owner t) asked));
+        answer = turn_answers texts h old new name f reply distinct stands lt now owned ∙ ap (λ (r : Held × PlainReply). r.1) same;
+        fits = subst (λ (r : Request). FitsRequest h.layout r asked.arena asked.raw) (sym (sized_asks h t a (text_at texts name) call (is texts).0 (is texts).1))
+            (subst (λ (l : Layout). FitsRequest l (sized_request call (is_owner h.owner t) (find h.blocks (text_at texts name))) asked.arena asked.raw) stands.layout
+            (subst (λ (o : Option Block). FitsRequest old.store.layout (sized_request call (is_owner h.owner t) o) asked.arena asked.raw) (sym there) fit));
+      }
 
   pub free_acts : (letter : Letter) (name : TextId) (call : Call) → op ≡ ops.Free letter name → call ≡ record { letter = letter; locked = is_owner old.owner t }
       → name.0 < length old.store.blocks → IsTurn name.0 (free_turn call.letter call.locked) old.store new.store reply → Acts t op old new not_asked reply
@@ -256,12 +296,21 @@ refuse_acts t op old side k is =
 
 -- ---- a request's result
 
--- a request for a block, or want of memory
-pub malloc_does : (t : ℕ) (op : Op) (old new : Holding) (letter : Letter) (name : TextId) (n : ℕ) (call : Call) (r : Result Answer AllocError) → new.owner ≡ old.owner
-    → op ≡ ops.Malloc letter name n → call ≡ record { letter = letter; locked = is_owner old.owner t } → name.0 < length old.store.blocks
-    → IfOk r (λ a. IsTurn name.0 (malloc_by call n a.asked) old.store new.store a.reply)
-    → IfOk r (λ a. FitsMalloc old.store name.0 call n a.asked)
+-- a call for a block, or want of memory
+pub sized_does : (t : ℕ) (op : Op) (old new : Holding) (name : TextId) (call : SizedCall) (locked : Bool) (r : Result Answer AllocError) → new.owner ≡ old.owner
+    → IsCallFor op name call → locked ≡ is_owner old.owner t → name.0 < length old.store.blocks
+    → IfOk r (λ a. IsTurn name.0 (sized_by call locked a.asked) old.store new.store a.reply)
+    → IfOk r (λ a. FitsCall old.store name.0 call locked a.asked)
     → IfOk r (λ a. Acts t op old new a.asked a.reply)
-malloc_does t op old new letter name n call (Ok a) owned is called lt turn fits =
-    malloc_acts t op old new a.reply owned letter name n call a.asked is called lt turn fits
-malloc_does t op old new letter name n call (Err e) owned is called lt turn fits = tt
+sized_does t op old new name call locked (Ok a) owned is owns lt turn fits =
+    sized_acts t op old new a.reply owned name call locked a.asked is owns lt turn fits
+sized_does t op old new name call locked (Err e) owned is owns lt turn fits = tt
+
+-- ---- which call an operation is
+
+-- the call of a domain by a track that owns the lock or not, whatever else it says
+pub call_is : (sized : Letter → SizedCall) (v : Letter) (owns : Bool) (call : Call) → call ≡ record { letter = v; locked = owns } → (sized call.letter ≡ sized v) × (call.locked ≡ owns)
+call_is sized v owns call is = (ap (λ (c : Call). sized c.letter) is, ap (λ (c : Call). c.locked) is)
+
+pub is_malloc : (op : Op) (v : Letter) (name : TextId) (n : ℕ) → op ≡ ops.Malloc v name n → IsCallFor op name (malloc_call v n)
+is_malloc op v name n is = subst (λ (o : Op). IsCallFor o name (malloc_call v n)) (sym is) (λ texts. (refl, refl))

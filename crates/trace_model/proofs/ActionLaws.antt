@@ -1,12 +1,16 @@
 -- Words that are read as an operation are its words, and its words are read as it.
-use Rattle.std.proofs.Common.{◌≡◌, ℕ, ◌<◌, ◌≤◌, Bool, true, cond, List, [], ◌∷◌, length, Some, Ok, Err, refl, sym, ap, subst, inl, inr, lit<, arith}
-use Rattle.std.specs.Prelude.{nat_le}
+use Rattle.std.proofs.Common.{◌≡◌, ℕ, zero, suc, ◌<◌, ◌≤◌, Bool, true, cond, List, [], ◌∷◌, ◌++◌, length, length-append, map, slice_get, Option, Some, Ok, Err, refl, sym, ap, subst, inl, inr, lit<, arith}
+use Rattle.std.specs.Prelude.{nat_le, unwrap_or}
 use Rattle.std.specs.List.{AllByRecursion, list_all}
 use Rattle.std.proofs.lemmas.Bool.{leb-true, le-leb}
 use Rattle.mem_base.specs.Name.{Name}
+use Rattle.mem_base.specs.declared.texts.TextId.{TextId}
+use Rattle.mem_base.specs.declared.trace.Op.{Op}
+use Rattle.mem_base.specs.declared.trace.Op.TheVariants as code
 use Rattle.mem_base.specs.declared.limits.TheConstants.{MAX_REACH, MAX_REFUSAL}
 use Rattle.trace_model.specs.Operands.{◌>>=◌, is_between, is_name, is_forged, hex_word, number_at, offset_at, count_at, refusal_at, name_at, letter_at, side_at, hex_from, hex_at}
-use Rattle.trace_model.specs.Plain.{Action, acquire, release, malloc, free, poke, peek, heap, refuse, other, keyword_text, keyword_among, keyword_of, operands_of, Fits, honest_poke, malloc_at, free_at, poke_at, peek_at, refuse_at, action_at}
+use Rattle.trace_model.specs.Plain.{Action, acquire, release, malloc, free, poke, peek, heap, refuse, other, keyword_text, action_of, keyword_among, keyword_of, operands_of, text_at, Fits, honest_poke, malloc_at, free_at, poke_at, peek_at, refuse_at, action_at}
+use Rattle.trace_model.specs.Known.{IsKnown, IsKnownOp}
 use Rattle.trace_model.specs.Spelling.{words_after, line_of}
 use Rattle.trace_model.specs.Reading.{head_at}
 use Rattle.trace_model.specs.declared.keyword.Keyword.{Keyword}
@@ -188,3 +192,46 @@ line_words a fits =
     let s = action_again a fits in
     words_plain (words_after (keyword_of a) (operands_of a))
     (subst (λ o. AllByRecursion (λ w. is_word w ≡ true) (words_after o (operands_of a))) (sym s.is) ((keyword_again s.keyword).1, s.words))
+
+-- ---- a table of texts that grows
+
+get_stays : (texts more : List Name) (i : ℕ) → i < length texts → slice_get (texts ++ more) i ≡ slice_get texts i
+get_stays [] more i lt = absurd (omega arith)
+get_stays (t ∷ ts) more zero lt = refl
+get_stays (t ∷ ts) more (suc i) lt = get_stays ts more i (omega arith)
+
+pub text_stays : (texts more : List Name) (id : TextId) → IsKnown texts id → text_at (texts ++ more) id ≡ text_at texts id
+text_stays texts more id known = ap (λ (o : Option Name). unwrap_or o []) (get_stays texts more id.0 known)
+
+pub known_stays : (texts more : List Name) (id : TextId) → IsKnown texts id → IsKnown (texts ++ more) id
+known_stays texts more id known = omega (arith, known, length-append texts more)
+
+action_stays : (texts more : List Name) (op : Op) → IsKnownOp texts op → action_of (texts ++ more) op ≡ action_of texts op
+action_stays texts more code.Acquire known = refl
+action_stays texts more code.Release known = refl
+action_stays texts more (code.Malloc letter name size) known = ap (λ (n : Name). malloc letter n size) (text_stays texts more name known)
+action_stays texts more (code.Free letter name) known = ap (λ (n : Name). free letter n) (text_stays texts more name known)
+action_stays texts more (code.Poke name offset bytes) known = ap (λ (n : Name). poke n offset bytes) (text_stays texts more name known.0)
+action_stays texts more (code.Peek name offset count) known = ap (λ (n : Name). peek n offset count) (text_stays texts more name known.0)
+action_stays texts more code.Heap known = refl
+action_stays texts more (code.Refuse side number) known = refl
+action_stays texts more op known = absurd known
+
+op_stays : (texts more : List Name) (op : Op) → IsKnownOp texts op → IsKnownOp (texts ++ more) op
+op_stays texts more code.Acquire known = tt
+op_stays texts more code.Release known = tt
+op_stays texts more (code.Malloc letter name size) known = known_stays texts more name known
+op_stays texts more (code.Free letter name) known = known_stays texts more name known
+op_stays texts more (code.Poke name offset bytes) known = (known_stays texts more name known.0, known.1, known.2, known.3)
+op_stays texts more (code.Peek name offset count) known = (known_stays texts more name known.0, known.1, known.2, known.3)
+op_stays texts more code.Heap known = tt
+op_stays texts more (code.Refuse side number) known = known
+op_stays texts more op known = absurd known
+
+pub actions_stay : (texts more : List Name) (ops : List Op) → AllByRecursion (IsKnownOp texts) ops → map (action_of (texts ++ more)) ops ≡ map (action_of texts) ops
+actions_stay texts more [] known = refl
+actions_stay texts more (op ∷ ops) known = λ i. action_stays texts more op known.0 i ∷ actions_stay texts more ops known.1 i
+
+pub ops_stay : (texts more : List Name) (ops : List Op) → AllByRecursion (IsKnownOp texts) ops → AllByRecursion (IsKnownOp (texts ++ more)) ops
+ops_stay texts more [] known = tt
+ops_stay texts more (op ∷ ops) known = (op_stays texts more op known.0, ops_stay texts more ops known.1)

@@ -1,4 +1,6 @@
--- What proofs of other crates may cite: lines that are read one after the other, and what one more operation adds.
+-- What proofs of other crates may cite: lines that are read one after the other, what one more operation adds, and
+-- what a table of texts that grows leaves as it was.
+pub use Rattle.trace_model.proofs.ActionLaws.{actions_stay, known_stays, ops_stay, text_stays}
 pub use Rattle.trace_model.proofs.LineSteps.{with_header, with_line}
 pub use Rattle.trace_model.proofs.OperandLaws.{both, test_holds, ok_is}
 pub use Rattle.trace_model.proofs.TraceLaws.{trace_takes, trace_again, read_back}

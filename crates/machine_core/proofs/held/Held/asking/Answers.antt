@@ -2,19 +2,23 @@ use Rattle.std.proofs.Common.{◌<◌, length, refl, sym, subst}
 use Rattle.mem_base.specs.declared.trace.Side.TheVariants as sides
 use Rattle.request_model.specs.Counts.{arena_asks, arena_refusals, raw_asks, raw_refusals}
 use Rattle.trace_model.specs.Plain.{IsKnownAmong}
+use Rattle.event_model.specs.Memory.{malloc_call}
+use Rattle.event_model.specs.State.{is_owner}
 use Rattle.block_store.specs.declared.answer.Answer.{Answer}
 use Rattle.machine_core.specs.Acts.{Acts, Asks}
 use Rattle.machine_core.specs.declared.held.Held.{Held as Holding}
 use Rattle.machine_core.proofs.ActLemmas.{held_told, nothing_fails, nothing_fails_unrefused, on_err, told_asks}
-use Rattle.machine_core.proofs.HeldLemmas.{free_acts, malloc_does}
+use Rattle.machine_core.proofs.HeldLemmas.{IsCallFor, call_is, free_acts, is_malloc, sized_does}
 use Rattle.machine_core.proofs.held.Held.asking.Goals as goal
 
 pub returns-in-Malloc-clause-acts : goal.returns-in-Malloc-clause-acts
 returns-in-Malloc-clause-acts g c =
     let old = c.args.self.now in
     let known : c.in-Malloc.name.0 < length old.store.blocks = subst (IsKnownAmong (length old.store.blocks)) c.in-Malloc.is c.requires.known in
-    malloc_does c.args.t c.args.op.now old (record { store = c.malloc.new.self; owner = old.owner }) c.in-Malloc.letter c.in-Malloc.name c.in-Malloc.size c.call-call.result c.malloc.result refl
-    c.in-Malloc.is c.call-call.ensures known c.malloc.ensures.turn c.malloc.ensures.fits
+    let call = c.call-call.result in
+    let of = call_is (λ v. malloc_call v c.in-Malloc.size) c.in-Malloc.letter (is_owner old.owner c.args.t) call c.call-call.ensures in
+    sized_does c.args.t c.args.op.now old (record { store = c.malloc.new.self; owner = old.owner }) c.in-Malloc.name (malloc_call call.letter c.in-Malloc.size) call.locked c.malloc.result refl
+    (subst (IsCallFor c.args.op.now c.in-Malloc.name) (sym of.0) (is_malloc c.args.op.now c.in-Malloc.letter c.in-Malloc.name c.in-Malloc.size c.in-Malloc.is)) of.1 known c.malloc.ensures.turn c.malloc.ensures.fits
 
 pub returns-in-Free-clause-acts : goal.returns-in-Free-clause-acts
 returns-in-Free-clause-acts g c =
