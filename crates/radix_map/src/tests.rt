@@ -1,6 +1,7 @@
 ghost use Rattle.std.specs.Prelude.{◌<◌};
 
 use crate::RadixMap;
+use std::alloc::{AllocError, Global};
 use std::test::Fail;
 
 const BASE: u64 = 0x1000_0000_1000;
@@ -21,13 +22,15 @@ fn an_arena_has_its_mib(rt: HostRuntime) -> Result<(), Fail> {
 }
 
 // What is found at both ends of an arena that begins so many pages behind a MiB, and of the one behind it.
-fn ends(rt: &HostRuntime, skew: u64) -> Result<[Option<u32>; 6], Fail>
+fn ends(alloc: Global, skew: u64) -> Result<[Option<u32>; 6], AllocError>
     requires { skew < 256 }
 {
     let base = 0x1000_0000_0000 + skew * 0x1000;
-    let mut map = RadixMap::new(rt.alloc())?;
+    let mut map = RadixMap::new(alloc)?;
     map.mark(base, 1)?;
-    assert!(rt; map.is_free(base + MIB));
+    if !map.is_free(base + MIB) {
+        return Ok([None; 6]);
+    }
     map.mark(base + MIB, 2)?;
     Ok([
         map.find(base - 1),
@@ -42,9 +45,9 @@ fn ends(rt: &HostRuntime, skew: u64) -> Result<[Option<u32>; 6], Fail>
 #[test]
 fn arenas_behind_pages_have_just_their_bytes(rt: HostRuntime) -> Result<(), Fail> {
     let want = [None, Some(1), Some(1), Some(2), Some(2), None];
-    assert_eq!(rt; ends(&rt, 1)?, want);
-    assert_eq!(rt; ends(&rt, 4)?, want);
-    assert_eq!(rt; ends(&rt, 255)?, want);
+    assert_eq!(rt; ends(rt.alloc(), 1)?, want);
+    assert_eq!(rt; ends(rt.alloc(), 4)?, want);
+    assert_eq!(rt; ends(rt.alloc(), 255)?, want);
     Ok(())
 }
 
