@@ -246,7 +246,7 @@ class Conversion:
         """Writes one call: who has the lock, what was damaged, the frames, and the call itself."""
         track = self.find_track(record.thread)
         name, held = f"b{record.ident}", self.letters.get(record.ident)
-        letter = held if record.kind == VANISHED else LETTERS[record.domain & ~UNLOCKED]
+        letter = LETTERS[record.domain & ~UNLOCKED]
         lacks_lock = bool(record.domain & UNLOCKED) and letter != RAW
         step, owner = self.pass_lock(track, letter, lacks_lock)
         damage = self.damage.pop(record.ident, [])

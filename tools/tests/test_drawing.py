@@ -42,6 +42,21 @@ REFUSED = """1 t acquire = ok
 """
 
 
+# Pools of three classes lie in the places 0, 1 and 2; the first two are freed, and a fourth class takes a pool.
+FREED = """1 t acquire = ok
+2 t malloc m x 8 = ok
+3 t malloc m y 100 = ok
+4 t malloc m z 224 = ok
+5 t free m x = ok
+6 t free m y = ok
+7 t malloc m w 200 = ok
+8 t heap = pool 2 raw 0
+  arena 1 free 62 of 64
+  class 224 used 1:1 full 0
+  class 256 used 1:1 full 0
+"""
+
+
 def example(name):
     with open(os.path.join(EXAMPLES, name + ".report")) as file:
         return file.read()
@@ -78,9 +93,8 @@ class Following(unittest.TestCase):
         self.assertEqual((second.arenas[1][0], second.arenas[1][1]), (None, (5, 1)))
 
     def test_a_new_pool_lies_in_the_place_that_was_freed_last(self):
-        later = MOVING + "7 t malloc m y 8 = ok\n8 t heap = pool 2 raw 0\n  arena 1 free 62 of 64\n  class 32 used 1:1 full 0\n"
-        moment = read_story(later + "  class 96 used 1:1 full 0\n" + SUMMARY).moments[-1]
-        self.assertEqual(moment.arenas[1][:3], [(1, 1), (5, 1), None])
+        moment = read_story(FREED + SUMMARY).moments[0]
+        self.assertEqual(moment.arenas[1][:4], [None, (13, 1), (15, 1), None])
 
     def test_refused_arenas_are_counted(self):
         self.assertEqual(read_story(REFUSED + SUMMARY).moments[0].arenas[1][0], (1, 1))
