@@ -58,6 +58,12 @@ from trace_text import (
 
 LETTERS = "rmo"
 RAW = "r"
+
+# What a replay takes for a block beside its data, its greatest block in a pool, and the raw memory that it has.
+HOOK_BYTES = 24
+GREATEST_SMALL = 512
+RAW_BYTES = 268_435_456
+
 CLOSING = ("heap",)
 CLOSING_WITH_FRAMES = ("heap", "traced", "snapshot end", "stats end lineno plain 10")
 
@@ -139,6 +145,9 @@ class Conversion:
         self.stacks = {}  # of each thread, as the log has it
         self.written = {}  # of each track, as the trace has it
         self.letters = {}  # of each live block
+        self.raw = {}  # bytes of each live block in raw memory
+        self.raw_now = 0
+        self.raw_most = 0
         self.damage = {}  # pokes of each block, from its pads
         self.track_of = {}  # of each thread
         self.free_tracks = []  # of threads that have ended
@@ -263,10 +272,21 @@ class Conversion:
         self.written[track] = stack
         self.owner = owner
         self.calls_written += record.kind != VANISHED
+        self.count_raw(record, letter)
         if record.kind in ALLOCATIONS:
             self.letters[record.ident] = letter
         else:
             self.letters.pop(record.ident, None)
+
+    def count_raw(self, record, letter):
+        """Follows the raw memory that a replay takes. A block of another size in raw memory is a new region, with the old one still out."""
+        old, new = self.raw.pop(record.ident, 0), 0
+        if record.kind in ALLOCATIONS:
+            need = record.a * (record.b if record.kind == CALLOC else 1) + HOOK_BYTES
+            if letter == RAW or old or need > GREATEST_SMALL:
+                self.raw[record.ident] = new = need
+                self.raw_most = max(self.raw_most, self.raw_now + new)
+        self.raw_now += new - old
 
     def pass_lock(self, track, letter, lacks_lock):
         """The operations that give the lock to the track of a call, or take it from it, and who has it then."""
@@ -314,6 +334,8 @@ class Conversion:
             told.append(f"cut after {self.calls_seen:,} of {logged:,} calls, since there are too many {cut}")
         if self.has_faulted:
             told.append("the last operation is a call that the debug hooks refuse: the replay ends there with a fault")
+        if self.raw_most > RAW_BYTES:
+            told.append(f"up to {self.raw_most:,} bytes of raw memory at once: a call past the {RAW_BYTES:,} of a replay answers null there")
         if header.end != ASKED_TO_STOP:
             told.append(ENDS[header.end])
         counts = (

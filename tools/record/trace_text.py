@@ -53,36 +53,39 @@ class Room:
         self.last_track = None
 
     def measure(self, step):
-        """The bytes of a step in the trace: its lines, the lines of new tracks, and its picks with the greatest numbers."""
-        size, known, last = 0, set(self.tracks), self.last_track
+        """What a step takes: bytes, with the lines of new tracks and with its picks in the greatest numbers; operations that print; and
+        names of snapshots and tracks that are new."""
+        size, reports, snapshots, tracks, last = 0, 0, set(), set(), self.last_track
         for track, line in step:
             size += len(line) + 1
-            if track not in known:
-                size += len(f"track {track}\n")
-                known.add(track)
             if track != last:
                 size += len(f"pick {track} {MOST_OPERATIONS}\n")
                 last = track
-        return size
+                if track not in self.tracks and track not in tracks:
+                    size += len(f"track {track}\n")
+                    tracks.add(track)
+            if is_report(line):
+                reports += 1
+                if line.startswith("snapshot "):
+                    snapshots.add(line.split(" ")[1])
+        return size, reports, snapshots, tracks
 
     def take(self, step):
         """Takes the room for a step, as pairs of a track and a line; all of it or none."""
-        reports = sum(is_report(line) for _, line in step)
-        names = {line.split(" ")[1] for _, line in step if line.startswith("snapshot ")}
-        size = self.measure(step)
+        size, reports, snapshots, tracks = self.measure(step)
         if len(step) > self.operations:
             raise TooMuch("operations: begin later with --skip N, or leave out what lives briefly with --thin K")
         if size > self.size:
             raise TooMuch("bytes: shorten names of files with --strip, or begin later with --skip N")
         if reports > self.reports:
             raise TooMuch("operations that print: ask for fewer with --heaps N, or mark less in the program")
-        if len(self.snapshots | names) > MOST_SNAPSHOTS:
+        if len(self.snapshots | snapshots) > MOST_SNAPSHOTS:
             raise TooMuch(f"snapshots: a trace has at most {MOST_SNAPSHOTS} names of them")
         self.operations -= len(step)
         self.size -= size
         self.reports -= reports
-        self.snapshots |= names
-        self.tracks.update(track for track, _ in step)
+        self.snapshots |= snapshots
+        self.tracks |= tracks
         self.last_track = step[-1][0]
 
 

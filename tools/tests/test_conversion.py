@@ -162,6 +162,13 @@ class Limits(unittest.TestCase):
         self.assertGreater(len(text), 16_777_216 - 400)
         self.assertTrue(any("too many bytes: shorten names of files with --strip" in remark for remark in remarks))
 
+    def test_more_raw_memory_than_a_replay_has_is_told(self):
+        records = [(MALLOC, RAW, 0, 1, 200_000_000, 0), (MALLOC, MEM, 0, 2, 400, 0), (REALLOC, RAW, 0, 1, 68_435_408, 0)]
+        remark = "up to 268,435,456 bytes of raw memory at once: a call past the 268,435,456 of a replay answers null there"
+        self.assertNotIn(remark, convert(log_of(records), PLAIN)[1])
+        records[-1] = (REALLOC, RAW, 0, 1, 68_435_409, 0)
+        self.assertIn(remark.replace("456 bytes", "457 bytes"), convert(log_of(records), PLAIN)[1])
+
     def test_brief_blocks_are_left_out(self):
         records = [(MALLOC, MEM, 0, 1, 5, 0), (MALLOC, MEM, 0, 2, 6, 0), (FREE, MEM, 0, 2, 0, 0), (FREE, MEM, 0, 1, 0, 0)]
         self.assertEqual(trace_of(records, Options(heaps=0, thin=1))[3:], ["malloc m b1 5", "free m b1", "heap"])
