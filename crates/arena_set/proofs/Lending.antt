@@ -1,32 +1,33 @@
 -- A pool of an arena that lends a block, or has one back.
-use Rattle.std.proofs.Common.{◌≡◌, ◌≢◌, ℕ, ◌+◌, ◌%◌, ◌<◌, ◌≤◌, inl, inr, ◌↔◌, Bool, IsTrue, List, [], ◌∷◌, map, length, get_or, set, replicate, Option, Some, None, refl, sym, ap, subst, ◌∙◌, arith, add_assoc, length-set}
-use Rattle.std.proofs.lemmas.List.{get_or-set_same, set-set, set-get_or, length-map, length-replicate}
+use Rattle.std.proofs.Common.{◌≡◌, ◌≢◌, ℕ, ◌+◌, ◌-◌, ◌%◌, ◌<◌, ◌≤◌, ◌⊎◌, inl, inr, ◌↔◌, Bool, IsTrue, List, [], ◌∷◌, map, length, get_or, set, replicate, Option, Some, None, refl, sym, ap, subst, ◌∙◌, arith, add_assoc, length-set}
+use Rattle.std.proofs.lemmas.List.{get_or-set_same, set-set, set-get_or, get_or-map, length-map, length-replicate}
 use Rattle.std.proofs.lemmas.Bool.Decides.{leb_tells}
 use Rattle.raw_region.specs.declared.maker.Maker.{Maker}
+use Rattle.raw_region.specs.Cells.{away, with_run, bytes_of}
 use Rattle.raw_region.specs.Region.{RegionView, PieceView}
-use Rattle.raw_region.proofs.Rules.{length-with_run, length-away, run_keeps}
+use Rattle.raw_region.proofs.CallerLemmas.{length-with_run, length-away, run_has, run_keeps}
 use Rattle.extents.specs.Sums.{tally, Has, Inserted, Removed}
 use Rattle.extents.specs.Extent.{Extent, covers, piece_extent}
-use Rattle.extents.proofs.Lists.{inserted-map, has_new}
-use Rattle.extents.proofs.Addresses.{same_extent}
+use Rattle.extents.proofs.CallerLemmas.{inserted-map, has_new, same_extent}
 use Rattle.layout_model.specs.Sizes.{size_of_class}
 use Rattle.links.specs.Nodes.{times}
-use Rattle.pool_core.specs.Pool.{PoolView, size_of, blocks_of, live_of, next_block, after_take, after_give, HasRoom, IsPool, IsBlock, IsEmpty}
+use Rattle.layout_model.proofs.CallerLemmas.{pools_inside}
+use Rattle.pool_core.specs.Pool.{PoolView, size_of, blocks_of, live_of, next_block, after_take, after_give, HasRoom, IsPool, IsBlock, IsFull, IsEmpty}
 use Rattle.pool_core.specs.Plain.{home, InRun}
-use Rattle.pool_core.proofs.Blocks.{block_inside}
-use Rattle.pool_core.proofs.Moves.{Took, took, gave}
+use Rattle.pool_core.proofs.CallerLemmas.{block_inside, Took, took, gave}
 use Rattle.arena_set.specs.Started.{Started, plain_of, started_from}
 use Rattle.arena_set.specs.Flat.{AllSome, flat}
-use Rattle.arena_set.specs.Arena.{ArenaView, first_pool, pool_offset, block_extent, pool_loans, arena_loans, piece_offset, after_lending, after_mending, started_times, AccountsFor, IsSound, IsArena, PoolChange}
-use Rattle.arena_set.specs.ArenaCalls.{ArenaLends, ArenaMends, IsLentAt, LentAt, MendedAt}
+use Rattle.layout_model.specs.Geometry.{first_pool, pool_offset}
+use Rattle.arena_set.specs.Arena.{ArenaView, block_extent, pool_loans, arena_loans, piece_offset, after_lending, after_mending, started_times, AccountsFor, IsSound, IsArena, PoolChange}
+use Rattle.arena_set.specs.ArenaCalls.{AreHomeAgain, ArenaLends, ArenaMends, IsLentAt, LentAt, MendedAt}
 use Rattle.arena_set.proofs.Flats.{inside, all_set, part_inserted}
-use Rattle.arena_set.proofs.Geometry.{pools_once, pools_inside}
+use Rattle.arena_set.proofs.Geometry.{pools_once}
 use Rattle.arena_set.proofs.Accounts.{lent_before, lent_after, home_after}
 use Rattle.arena_set.proofs.Starteds.{accounts_only, arena_changes, arena_stands, pools_are}
 
 -- a pool lies in its arena
 pub pool_fits : (a : ArenaView) (k : ℕ) → IsArena a → k < length a.pools → pool_offset a.region.base k + 16384 ≤ length a.region.cells
-pool_fits a k s lt = let f = pools_inside a.region.base in let c = s.count in let l = s.region.long in omega arith
+pool_fits a k s lt = let f = pools_inside a.region.base in let c = s.count in let l = s.region.len in omega arith
 
 -- two states of pool k, of which the second one has the block at o too
 module _ (a : ArenaView) (k o : ℕ) (few many : PoolView) (number next prev : ℕ) (kept : AllSome IsSound a.pools)
@@ -278,6 +279,19 @@ module _ (a : ArenaView) (k : ℕ) (s : Started) (sound : IsArena a) (was : get_
     off_is : p.off ≡ piece_offset a k piece
     off_is = let e = place_is in omega arith
 
+    -- the bytes behind the first eight are those of the piece
+    back_bytes : AreHomeAgain r (piece.place - a.region.base) piece.bytes
+    back_bytes i low lt =
+        let e : there + p.off ≡ piece.place - a.region.base = let q = place_is in omega arith in
+        let b = block_inside s.pool.class p.off (given).0.inside in
+        let long = len_is in
+        let back : there + p.off + i - (there + p.off) ≡ i = omega arith in
+        subst (λ n. get_or r.cells (n + i) None ≡ Some (get_or piece.bytes i 0)) e
+        (m.only.kept (there + p.off + i) (λ q. elim q [ inl h ↦ (let top = h.1 in absurd (omega arith)) | inr h ↦ (let top = h.1 in absurd (omega arith)) ])
+        ∙ (ap (λ cells. get_or cells (there + p.off + i) None) m.home
+        ∙ (run_has a.region.cells (there + p.off) (size_of s.pool) (map Some piece.bytes) fits_there bytes_long (there + p.off + i) (omega arith) (omega arith)
+        ∙ (ap (λ j. get_or (map Some piece.bytes) j None) back ∙ get_or-map Some piece.bytes i 0 None lt))))
+
     pub mend_tells : ArenaMends a mended_arena k piece full empty
     mend_tells = record {
       s = s;
@@ -286,5 +300,6 @@ module _ (a : ArenaView) (k : ℕ) (s : Started) (sound : IsArena a) (was : get_
       was_full = m.was_full;
       now_empty = subst (λ o. IsTrue empty ↔ IsEmpty (after_give s.pool o)) off_is m.now_empty;
       live = subst (λ o. live_of s.pool ≡ live_of (after_give s.pool o) + 1) off_is (given).0.live;
+      bytes = back_bytes;
       loans = subst (λ (x : ArenaView). Removed (piece_extent piece) (arena_loans a) (arena_loans x)) same_back (subst (λ e. Removed e (arena_loans a) lent_still) (sym p.is) fewer);
     }

@@ -4,7 +4,8 @@ use Rattle.std.proofs.lemmas.List.{get_or-set_same, get_or-set_other}
 use Rattle.std.proofs.lemmas.Bool.Decides.{eqb_tells}
 use Rattle.raw_region.specs.Region.{RegionView}
 use Rattle.arena_set.specs.Started.{Started}
-use Rattle.arena_set.specs.Arena.{ArenaView, new_arena, total_at}
+use Rattle.layout_model.specs.Geometry.{total_at}
+use Rattle.arena_set.specs.Arena.{ArenaView, new_arena}
 use Rattle.arena_set.specs.Set.{AreNamed, PoolsNamed}
 use Rattle.arena_set.proofs.Flats.{some_same}
 

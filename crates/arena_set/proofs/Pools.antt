@@ -1,18 +1,21 @@
 -- Pools of an arena that are taken, started, and come back.
-use Rattle.std.proofs.Common.{◌≡◌, ℕ, zero, suc, ◌+◌, ◌-◌, ◌*◌, ◌%◌, ◌<◌, ◌≤◌, ◌≢◌, inl, inr, List, [], ◌∷◌, ◌++◌, map, length, get_or, set, take, reverse, replicate, Option, Some, None, refl, sym, ap, subst, ◌∙◌, arith, length-set}
-use Rattle.std.proofs.lemmas.List.{get_or-set_same, get_or-set_other, length-replicate, reverse-append, take-replicate}
+use Rattle.std.proofs.Common.{◌≡◌, ℕ, zero, suc, ◌+◌, ◌-◌, ◌*◌, ◌%◌, ◌<◌, ◌≤◌, ◌≢◌, inl, inr, List, [], ◌∷◌, ◌++◌, map, length, get_or, set, take, replicate, Option, Some, None, refl, sym, ap, subst, ◌∙◌, arith, length-set}
+use Rattle.std.proofs.lemmas.List.{get_or-set_same, get_or-set_other, length-replicate, take-replicate}
 use Rattle.std.proofs.lemmas.Bool.Decides.{eqb_tells}
 use Rattle.std.specs.Option.{ForSome}
 use Rattle.raw_region.specs.declared.maker.Maker.{Maker}
 use Rattle.raw_region.specs.Cells.{AllHome}
 use Rattle.raw_region.specs.Region.{RegionView}
+use Rattle.layout_model.proofs.CallerLemmas.{some_pools}
 use Rattle.links.specs.Nodes.{times}
-use Rattle.links.proofs.NodeLemmas.{times-here}
+use Rattle.links.proofs.CallerLemmas.{times-here}
 use Rattle.pool_core.specs.Pool.{blocks_of, IsEmpty}
 use Rattle.arena_set.specs.Started.{Started, started_from, started_in}
 use Rattle.arena_set.specs.Flat.{part, flat}
-use Rattle.arena_set.specs.Arena.{ArenaView, total_at, numbers_from, new_arena, pool_loans, arena_loans, started_times, after_give_pool, arena_view, first_pool, AccountsFor, IsSound, IsArena, IsArenaRegion}
-use Rattle.arena_set.proofs.Flats.{all_gap, all_none, part_same, flat_none, flat_empty}
+use Rattle.layout_model.specs.Geometry.{total_at, first_pool, IsArenaRegion}
+use Rattle.arena_set.specs.FreeChain.{IsFreeList, chain_from, free_list, numbers_from, untouched}
+use Rattle.arena_set.specs.Arena.{ArenaView, new_arena, pool_loans, arena_loans, started_times, arena_view, AccountsFor, IsSound, IsArena}
+use Rattle.arena_set.proofs.Flats.{all_set, all_gap, all_none, part_same, flat_none, flat_empty}
 use Rattle.arena_set.proofs.Rows.{row_times, row_most, row_missing, row_all, times_from}
 use Rattle.arena_set.proofs.Starteds.{length-started, started_at, started_is}
 use Rattle.arena_set.proofs.Accounts.{none_lent, all_counted}
@@ -41,9 +44,6 @@ free_left a k s lt out =
     let all = row_times (length a.pools) a.free s.below in
     let m = row_missing (length a.pools) (λ j. times j a.free) k (λ j. let f = s.free j in omega arith) lt out in omega arith
 
-pub most_pools : (base : ℕ) → total_at base ≤ 64
-most_pools base = elim (eqb_tells (base % 16384) 0) [ inl w ↦ rw w.0 (omega arith) | inr w ↦ rw w.0 (omega arith) ]
-
 no_blocks : (b : ℕ) (m : Maker) (k : ℕ) (s : Started) → IsEmpty s.pool → pool_loans b m k s ≡ []
 no_blocks b m k s none = empty_map _ (blocks_of s.pool) none where
   empty_map : {X : Type 0} (g : ℕ → X) (os : List ℕ) → length os ≡ 0 → map g os ≡ []
@@ -62,28 +62,8 @@ module _ (a : ArenaView) (k : ℕ) (sound : IsArena a) (lt : k < length a.pools)
   same_loans o was now =
       part_same (pool_loans a.region.base a.region.maker) 0 k k a.pools (get_or a.pools k None) o (omega arith) lt refl (no_part a.region.base a.region.maker k o now ∙ sym (no_part a.region.base a.region.maker k (get_or a.pools k None) was))
 
-  pub gave_loans : ForSome (get_or a.pools k None) (λ s. IsEmpty s.pool) → arena_loans (after_give_pool a k) ≡ arena_loans a
+  pub gave_loans : ForSome (get_or a.pools k None) (λ s. IsEmpty s.pool) → lent (set a.pools k None) ≡ arena_loans a
   gave_loans was = same_loans None was (λ s e. absurd (cc))
-
-  pub gave_pool : ForSome (get_or a.pools k None) (λ s. IsEmpty s.pool) → IsArena (after_give_pool a k)
-  gave_pool was = record {
-    region = sound.region;
-    count = length-set a.pools k None ∙ sound.count;
-    free = λ j. elim (eqb_tells k j) [
-      | inl w ↦ subst (λ i. times i (k ∷ a.free) + started_times (get_or (set a.pools k None) i None) ≤ 1) w.1 (let h = times-here k a.free in let g = ap started_times (get_or-set_same a.pools k None None lt) in omega arith)
-      | inr w ↦ let h = times_other j k a.free w.1 in let g = ap started_times (get_or-set_other a.pools k j None None (λ e. w.1 (sym e))) in let f = sound.free j in omega arith
-    ];
-    below = λ j h. subst (λ n. j < n) (sym (length-set a.pools k None)) (elim (eqb_tells k j) [
-      | inl w ↦ subst (λ i. i < length a.pools) w.1 lt
-      | inr w ↦ sound.below j (let t = times_other j k a.free w.1 in omega arith)
-    ]);
-    sound = all_gap IsSound a.pools k sound.sound;
-    accounts = subst (AccountsFor a.region) (sym (gave_loans was)) sound.accounts;
-    stands = λ j s there. elim (eqb_tells j k) [
-      | inl w ↦ let e = sym (get_or-set_same a.pools k None None lt) ∙ subst (λ i. get_or (set a.pools k None) i None ≡ Some s) w.1 there in absurd (cc)
-      | inr w ↦ sound.stands j s (sym (get_or-set_other a.pools k j None None w.1) ∙ there)
-    ];
-  }
 
   module _ (s : Started) (fresh : get_or a.pools k None ≡ None) (none : IsEmpty s.pool) where
     pub started_loans : lent (set a.pools k (Some s)) ≡ arena_loans a
@@ -127,30 +107,27 @@ new_is_arena r s home =
       stands = λ j s there. let z = none_at n j in let e = ap started_times there in absurd (omega arith);
     }
 
--- ---- the lists of a new arena
-
--- one more pool in front of those that are listed
-pub listed_more : (items : List ℕ) (count done x : ℕ) → reverse items ≡ numbers_from (count - done) done → done < count → x ≡ count - 1 - done → reverse (items ++ x ∷ []) ≡ numbers_from (count - (done + 1)) (done + 1)
-listed_more items count done x e lt is =
-    let first : count - (done + 1) ≡ x = omega arith in let second : count - (done + 1) + 1 ≡ count - done = omega arith in let more : suc done ≡ done + 1 = omega arith in
-    reverse-append items (x ∷ []) ∙ ap (λ xs. x ∷ xs) e ∙ (λ i. sym first i ∷ numbers_from (sym second i) done) ∙ ap (λ k. numbers_from (count - (done + 1)) k) more
-
-pub none_listed : (count : ℕ) (items : List ℕ) → items ≡ [] → reverse items ≡ numbers_from (count - 0) 0
-none_listed count items e = ap reverse e
-
-pub all_listed : (count : ℕ) (xs : List ℕ) → xs ≡ numbers_from (count - count) count → xs ≡ numbers_from 0 count
-all_listed count xs e = let z : count - count ≡ 0 = omega arith in e ∙ ap (λ n. numbers_from n count) z
+-- ---- a new arena
 
 -- no number is one of a pool that was started
 pub none_told : (cells : List (Option ℕ)) (at n : ℕ) → started_from cells at (replicate n None) ≡ replicate n None
 none_told cells at zero = refl
 none_told cells at (suc n) = ap (λ ps. None ∷ ps) (none_told cells (at + 16384) n)
 
-pub new_arena_is : (r : RegionView) (n : ℕ) (free : List ℕ) (now os : List (Option ℕ)) → n ≡ total_at r.base → free ≡ numbers_from 0 n → now ≡ take n os → os ≡ replicate 64 None → record { region = r; free = free; pools = started_from r.cells (first_pool r.base) now } ≡ new_arena r
+-- no pool of it is linked
+pub new_list : (r : RegionView) (free : ℕ) → free ≡ total_at r.base → IsFreeList r 0 free 0 × (free_list r 0 free 0 ≡ numbers_from 0 (total_at r.base))
+new_list r free is =
+    let none : free - untouched r.base 0 ≡ 0 = omega arith in
+    let all : untouched r.base 0 ≡ total_at r.base = omega arith in (
+      record { linked = []; chain = tt; front = refl; count = omega arith; most = omega arith },
+      (λ i. chain_from r.cells r.base (none i) 0 ++ numbers_from 0 (all i)),
+    )
+
+pub new_arena_is : (r : RegionView) (n free : ℕ) (now os : List (Option ℕ)) → n ≡ total_at r.base → free ≡ total_at r.base → now ≡ take n os → os ≡ replicate 64 None → arena_view r (free_list r 0 free 0) now ≡ new_arena r
 new_arena_is r n free now os e f p all =
-    let most : n ≤ 64 = let m = most_pools r.base in omega arith in
+    let most : n ≤ 64 = let m = (some_pools r.base).1 in omega arith in
     let none : Option ℕ = None in
-    let fs : free ≡ numbers_from 0 (total_at r.base) = f ∙ ap (numbers_from 0) e in
+    let fs = (new_list r free f).1 in
     let numbers : now ≡ replicate (total_at r.base) None = p ∙ (ap (take n) all ∙ (take-replicate n 64 none most ∙ ap (λ k. replicate k none) e)) in
     let pools : started_from r.cells (first_pool r.base) now ≡ replicate (total_at r.base) None = ap (started_from r.cells (first_pool r.base)) numbers ∙ none_told r.cells (first_pool r.base) (total_at r.base) in
     λ i. record { region = r; free = fs i; pools = pools i }
@@ -158,16 +135,3 @@ new_arena_is r n free now os e f p all =
 -- no more pools are free than there are
 pub free_most : (a : ArenaView) → IsArena a → length a.free ≤ length a.pools
 free_most a s = let all = row_times (length a.pools) a.free s.below in let m = row_most (length a.pools) (λ j. times j a.free) (λ j. let f = s.free j in omega arith) in omega arith
-
--- a pool that comes back has no number
-pub gave_view : (r : RegionView) (free now : List ℕ) (os : List (Option ℕ)) (k : ℕ) → now ≡ k ∷ free → k < length (started_from r.cells (first_pool r.base) os) → after_give_pool (arena_view r free os) k ≡ arena_view r now (set os k None)
-gave_view r free now os k listed lt =
-    let none : Option ℕ = None in
-    let size = length-started r.cells (first_pool r.base) os in
-    let pools : started_from r.cells (first_pool r.base) (set os k None) ≡ set (started_from r.cells (first_pool r.base) os) k None =
-    started_is r.cells (first_pool r.base) (set os k None) (set (started_from r.cells (first_pool r.base) os) k None) (length-set (started_from r.cells (first_pool r.base) os) k None ∙ (size ∙ sym (length-set os k None))) (λ i less. elim (eqb_tells i k) [
-      | inl w ↦ subst (λ j. started_in r.cells (first_pool r.base + 16384 * j) (get_or (set os k None) j None) ≡ get_or (set (started_from r.cells (first_pool r.base) os) k None) j None) (sym w.1)
-          (ap (started_in r.cells (first_pool r.base + 16384 * k)) (get_or-set_same os k none None (omega arith)) ∙ sym (get_or-set_same (started_from r.cells (first_pool r.base) os) k None None lt))
-      | inr w ↦ ap (started_in r.cells (first_pool r.base + 16384 * i)) (get_or-set_other os k i none None w.1) ∙ (sym (started_at r.cells (first_pool r.base) os i) ∙ sym (get_or-set_other (started_from r.cells (first_pool r.base) os) k i None None w.1))
-    ]) in
-    λ i. record { region = r; free = sym listed i; pools = sym pools i }

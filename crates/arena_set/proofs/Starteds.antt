@@ -1,15 +1,16 @@
 -- Pools as the bytes of their arena tell them, when one of them changes.
-use Rattle.std.proofs.Common.{◌≡◌, ◌≢◌, ℕ, zero, suc, ◌+◌, ◌*◌, ◌<◌, ◌≤◌, inl, inr, List, [], ◌∷◌, length, get_or, set, Option, Some, None, refl, sym, ap, subst, ◌∙◌, arith, length-set}
+use Rattle.std.proofs.Common.{◌≡◌, ◌≢◌, ℕ, zero, suc, ◌+◌, ◌*◌, ◌%◌, ◌<◌, ◌≤◌, ◌⊎◌, inl, inr, List, [], ◌∷◌, length, get_or, set, Option, Some, None, refl, sym, ap, subst, ◌∙◌, arith, length-set}
 use Rattle.std.proofs.lemmas.List.{get_or-set_same, get_or-set_other}
 use Rattle.std.proofs.lemmas.Bool.Decides.{eqb_tells, leb_tells}
 use lib.Seq.{ext_get_or}
 use Rattle.raw_region.specs.Region.{RegionView}
 use Rattle.links.specs.Nodes.{times}
 use Rattle.pool_core.specs.Plain.{PlainView, InRun, OnlyAt, StandsFor, plain_at, home}
-use Rattle.pool_core.proofs.Plains.{plain_is}
-use Rattle.pool_core.proofs.Stands.{stands_apart}
+use Rattle.pool_core.proofs.CallerLemmas.{plain_is, stands_apart}
 use Rattle.arena_set.specs.Started.{Started, plain_of, started_from, started_in, started_of}
-use Rattle.arena_set.specs.Arena.{ArenaView, first_pool, pool_offset, arena_loans, started_times, AccountsFor, AllStand, IsSound, IsArena, PoolChange}
+use Rattle.arena_set.specs.Flat.{flat}
+use Rattle.layout_model.specs.Geometry.{first_pool, pool_offset, total_at}
+use Rattle.arena_set.specs.Arena.{ArenaView, pool_loans, arena_loans, started_times, AccountsFor, AllStand, IsSound, IsArena, PoolChange}
 use Rattle.arena_set.proofs.Flats.{all_set}
 
 -- ---- the pools by their numbers
@@ -31,7 +32,7 @@ started_is cells at os ps long each =
 
 -- ---- one pool changes
 
-same_read : (n : ℕ) (p q : PlainView) → p ≡ q → Some (started_of n p) ≡ Some (started_of n q)
+pub same_read : (n : ℕ) (p q : PlainView) → p ≡ q → Some (started_of n p) ≡ Some (started_of n q)
 same_read n p q e = ap (λ x. Some (started_of n x)) e
 
 module _ (a : ArenaView) (k : ℕ) (t : Started) (cells : List (Option ℕ)) (sound : IsArena a) (lt : k < length a.pools)
@@ -82,7 +83,7 @@ module _ (a : ArenaView) (k : ℕ) (t : Started) (cells : List (Option ℕ)) (so
   -- and the arena stays one, where its bytes account for what is lent then
   pub arena_stands : times k a.free ≡ 0 → AccountsFor region_now (arena_loans arena_now) → IsArena arena_now
   arena_stands out accounts = record {
-    region = record { long = long ∙ sound.region.long; aligned = sound.region.aligned; somewhere = sound.region.somewhere };
+    region = record { len = long ∙ sound.region.len; aligned = sound.region.aligned; somewhere = sound.region.somewhere };
     count = length-set a.pools k (Some t) ∙ sound.count;
     free = λ j. elim (eqb_tells j k) [
       | inl same ↦ subst (λ i. times i a.free + started_times (get_or pools_now i None) ≤ 1) (sym same.1) (let e = ap started_times (get_or-set_same a.pools k (Some t) None lt) in omega arith)

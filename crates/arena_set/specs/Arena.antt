@@ -4,34 +4,20 @@ use Rattle.raw_region.specs.declared.maker.Maker.{Maker}
 use Rattle.raw_region.specs.Region.{RegionView, PieceView}
 use Rattle.extents.specs.Sums.{tally}
 use Rattle.extents.specs.Extent.{Extent, covers}
+use Rattle.layout_model.specs.declared.measures.TheConstants.{POOL_BYTES}
+use Rattle.layout_model.specs.Geometry.{first_pool, pool_offset, total_at, IsArenaRegion}
 use Rattle.pool_core.specs.Pool.{size_of, blocks_of, next_block, after_take, after_give, IsPool}
 use Rattle.pool_core.specs.Plain.{home, InRun, StandsFor}
 use Rattle.links.specs.Nodes.{times}
 use Rattle.arena_set.specs.Started.{Started, plain_of, started_from}
 use Rattle.arena_set.specs.Flat.{AllSome, flat}
+use Rattle.arena_set.specs.FreeChain.{numbers_from}
 
 -- an arena: its region, its free pools, the next one first, and each of its pools that was started
 pub record ArenaView : Type 0 where
   pub region : RegionView
   pub free : List ℕ
   pub pools : List (Option Started)
-
--- the offset of the first pool in a region with this base: pools begin at multiples of 16,384
-abbrev pub first_pool : ℕ → ℕ
-first_pool base = (16384 - base % 16384) % 16384
-
--- how many pools a region with this base has
-abbrev pub total_at : ℕ → ℕ
-total_at base = if base % 16384 == 0 then 64 else 63
-
--- the offset of pool k in a region with this base
-abbrev pub pool_offset : ℕ → ℕ → ℕ
-pool_offset base k = first_pool base + 16384 * k
-
--- k numbers from n on, in order
-abbrev pub numbers_from : ℕ → ℕ → List ℕ
-numbers_from n zero = []
-numbers_from n (suc k) = n ∷ numbers_from (n + 1) k
 
 -- an arena of which no pool was taken
 abbrev pub new_arena : RegionView → ArenaView
@@ -62,12 +48,6 @@ started_times (Some s) = 1
 abbrev pub IsSound : Started → Type 0
 IsSound s = IsPool s.pool
 
--- a region that can be an arena: a mebibyte at a page of 4,096 bytes that is not the first one
-pub record IsArenaRegion (r : RegionView) : Type 0 where
-  pub long : length r.cells ≡ 1048576
-  pub aligned : r.base % 4096 ≡ 0
-  pub somewhere : 1 ≤ r.base
-
 -- the pools are in the region's bytes
 abbrev pub AllStand : RegionView → List (Option Started) → Type 0
 AllStand r pools = (k : ℕ) (s : Started) → get_or pools k None ≡ Some s → StandsFor r.cells (pool_offset r.base k) (plain_of s)
@@ -88,9 +68,14 @@ arena_view region free numbers = record { region = region; free = free; pools = 
 
 -- ---- what calls do to one arena
 
--- the arena after pool k came back
-abbrev pub after_give_pool : ArenaView → ℕ → ArenaView
-after_give_pool a k = record a { free = k ∷ a.free; pools = set a.pools k None }
+-- b is a after pool k came back. No cell has changed but those of pool k
+pub record PoolReturns (a b : ArenaView) (k : ℕ) : Type 0 where
+  pub base : b.region.base ≡ a.region.base
+  pub maker : b.region.maker ≡ a.region.maker
+  pub long : length b.region.cells ≡ length a.region.cells
+  pub free : b.free ≡ k ∷ a.free
+  pub pools : b.pools ≡ set a.pools k None
+  pub beside : (i : ℕ) → (InRun (pool_offset a.region.base k) POOL_BYTES i → ⊥) → get_or b.region.cells i None ≡ get_or a.region.cells i None
 
 -- b is a with pool k as t. No cell has changed but those of pool k
 pub record PoolChange (a b : ArenaView) (k : ℕ) (t : Started) : Type 0 where
@@ -99,7 +84,7 @@ pub record PoolChange (a b : ArenaView) (k : ℕ) (t : Started) : Type 0 where
   pub long : length b.region.cells ≡ length a.region.cells
   pub free : b.free ≡ a.free
   pub pools : b.pools ≡ set a.pools k (Some t)
-  pub beside : (i : ℕ) → (InRun (pool_offset a.region.base k) 16384 i → ⊥) → get_or b.region.cells i None ≡ get_or a.region.cells i None
+  pub beside : (i : ℕ) → (InRun (pool_offset a.region.base k) POOL_BYTES i → ⊥) → get_or b.region.cells i None ≡ get_or a.region.cells i None
 
 -- the pool after its next block was lent
 abbrev pub after_lending : Started → Started

@@ -8,7 +8,8 @@ use Rattle.layout_model.specs.Layout.{Usable, Used}
 use Rattle.layout_model.specs.Sizes.{capacity}
 use Rattle.layout_model.specs.Sound.{is_arena, has_arena, full_arena, free_in, total_in, total_or, dry_times, pools_of, HasTotal}
 use Rattle.layout_model.specs.Place.{after_taking, dry_after_taking}
-use Rattle.heap_model.specs.Tables.{Spot, PoolLine, Tables, spot_of, with_one_more, with_one_less}
+use Rattle.layout_model.specs.Geometry.{PoolLine}
+use Rattle.heap_model.specs.Tables.{Spot, Tables, spot_of, with_one_more, with_one_less}
 use Rattle.heap_model.specs.View.{used_at, full_of, full_in, layout_of}
 use Rattle.heap_model.specs.Kept.{has_number, is_spot, open_at, is_open, IsKept}
 use Rattle.heap_model.proofs.Pools.{tally_some, number_self, is_spot_self, is_spot_same}

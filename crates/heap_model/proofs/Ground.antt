@@ -1,40 +1,22 @@
 -- Which pool has an address.
-use Rattle.std.proofs.Common.{◌≡◌, ◌≢◌, ◌⊎◌, ℕ, ◌+◌, ◌%◌, ◌<◌, ◌≤◌, inl, inr, cond, eqb, List, [], ◌∷◌, get_or, Some, None, refl, sym, ap, subst, ◌∙◌, arith}
+use Rattle.std.proofs.Common.{◌≡◌, ℕ, ◌+◌, ◌<◌, ◌≤◌, inl, inr, cond, eqb, List, [], ◌∷◌, get_or, Some, None, refl, sym, ap, subst, ◌∙◌, arith}
 use Rattle.std.proofs.lemmas.Bool.Decides.{eqb_tells, leb_tells}
 use Rattle.std.proofs.lemmas.List.{get_or_past}
 use Rattle.extents.specs.Sums.{Has}
-use Rattle.heap_model.specs.Tables.{PoolLine, Tables}
+use Rattle.layout_model.proofs.CallerLemmas.{pools_are_in_arenas, address_tells_slot, in_arena_is}
+use Rattle.heap_model.specs.Tables.{Tables}
 use Rattle.heap_model.specs.View.{place_in, places_of}
 use Rattle.heap_model.specs.Kept.{IsKept}
-use Rattle.heap_model.specs.Ground.{Site, total_at, place_at, slot_at, in_arena, ArenaHas, PoolHas, StandsIn, AreStanding}
+use Rattle.layout_model.specs.Geometry.{Site, place_at, slot_at, in_arena, ArenaHas, PoolHas, PoolLine}
+use Rattle.heap_model.specs.Ground.{StandsIn, AreStanding}
 use Rattle.heap_model.proofs.Pools.{tally_once, spot_once}
 use Rattle.heap_model.proofs.Places.{places_long}
 use Rattle.heap_model.proofs.Numbered.{numbered_at}
 
--- the pools of an arena: 64 where the base is a multiple of 16,384, else 63
-few : (base : ℕ) → ((base % 16384 ≡ 0) × (total_at base ≡ 64)) ⊎ ((base % 16384 ≢ 0) × (total_at base ≡ 63))
-few base = elim (eqb_tells (base % 16384) 0) [ inl w ↦ inl (w.1, rw w.0 refl) | inr w ↦ inr (w.1, rw w.0 refl) ]
-
-pub places_are_in_arenas : (base slot : ℕ) → slot < total_at base → (place_at base slot % 16384 ≡ 0) × (base ≤ place_at base slot) × (place_at base slot + 16384 ≤ base + 1048576)
-places_are_in_arenas base slot low = elim (few base) [
-  | inl w ↦ let whole = w.0 in let all : slot < 64 = subst (λ n. slot < n) w.1 low in (omega arith, omega arith, omega arith)
-  | inr w ↦ let part = w.0 in let all : slot < 63 = subst (λ n. slot < n) w.1 low in (omega arith, omega arith, omega arith)
-]
-
--- the address tells the place among those of the arena
-slot_found : (base slot p : ℕ) → place_at base slot ≤ p → p < place_at base slot + 16384 → slot ≡ slot_at base p
-slot_found base slot p low high = omega arith
-
-in_arena_is : (p : ℕ) (a : Site) → ArenaHas p a → in_arena p a ≡ 1
-in_arena_is p a h = elim (leb_tells a.base p) [
-  | inl v ↦ rw v.0 (elim (leb_tells (a.base + 1048576) p) [ inl w ↦ absurd (let low = w.1 in let high = h.1 in omega arith) | inr w ↦ rw w.0 refl ])
-  | inr v ↦ absurd (let low = v.1 in let high = h.0 in omega arith)
-]
-
 -- an address of a pool is one of its arena
-in_its_arena : (p : ℕ) (a : Site) (x : PoolLine) → StandsIn a x → PoolHas p x → ArenaHas p a
+in_its_arena : (p : ℕ) (a : Site) (x : PoolLine) → StandsIn a x → PoolHas x.place p → ArenaHas p a
 in_its_arena p a x s h =
-    let w = places_are_in_arenas a.base x.slot s.slot in
+    let w = pools_are_in_arenas a.base x.slot s.slot in
     let low : place_at a.base x.slot ≤ p = subst (λ n. n ≤ p) s.place h.0 in
     let high : p < place_at a.base x.slot + 16384 = subst (λ n. p < n + 16384) s.place h.1 in
     (omega arith, omega arith)
@@ -44,14 +26,14 @@ one_arena sites t a b p ground ha hb ia ib =
     let one = in_arena_is p a ia in let two = in_arena_is p b ib in
     tally_once (in_arena p) sites a b (ground.apart p) ha hb (omega arith) (omega arith)
 
-pub address_finds_pool : (sites : List Site) (t : Tables) (x : PoolLine) (a : Site) (p : ℕ) → AreStanding sites t → Has x t.started → PoolHas p x → Has a sites → ArenaHas p a → StandsIn a x × (x.slot ≡ slot_at a.base p)
+pub address_finds_pool : (sites : List Site) (t : Tables) (x : PoolLine) (a : Site) (p : ℕ) → AreStanding sites t → Has x t.started → PoolHas x.place p → Has a sites → ArenaHas p a → StandsIn a x × (x.slot ≡ slot_at a.base p)
 address_finds_pool sites t x a p ground here has ha ia =
     let b = ground.pools x here in
     let same : b.0 ≡ a = one_arena sites t b.0 a p ground b.1.0 ha (in_its_arena p b.0 x b.1.1 has) ia in
     let stands : StandsIn a x = subst (λ c. StandsIn c x) same b.1.1 in
-    (stands, slot_found a.base x.slot p (subst (λ n. n ≤ p) stands.place has.0) (subst (λ n. p < n + 16384) stands.place has.1))
+    (stands, sym (address_tells_slot a.base x.slot p (subst (λ n. PoolHas n p) stands.place has)))
 
-pub pools_do_not_meet : (sites : List Site) (t : Tables) (x z : PoolLine) (p : ℕ) → IsKept t → AreStanding sites t → Has x t.started → Has z t.started → PoolHas p x → PoolHas p z → x ≡ z
+pub pools_do_not_meet : (sites : List Site) (t : Tables) (x z : PoolLine) (p : ℕ) → IsKept t → AreStanding sites t → Has x t.started → Has z t.started → PoolHas x.place p → PoolHas z.place p → x ≡ z
 pools_do_not_meet sites t x z p kept ground hx hz px pz =
     let b = ground.pools x hx in
     let f = address_finds_pool sites t z b.0 p ground hz pz b.1.0 (in_its_arena p b.0 x b.1.1 px) in
@@ -78,7 +60,7 @@ pub places_differ : (sites : List Site) (t : Tables) (j k p : ℕ) → IsKept t 
 places_differ sites t j k p kept ground e d =
     let x = placed_pool t j p e in
     let z = placed_pool t k p d in
-    let px : PoolHas p x.0 = let q = x.1.2 in (omega arith, omega arith) in
-    let pz : PoolHas p z.0 = let q = z.1.2 in (omega arith, omega arith) in
+    let px : PoolHas x.0.place p = let q = x.1.2 in (omega arith, omega arith) in
+    let pz : PoolHas z.0.place p = let q = z.1.2 in (omega arith, omega arith) in
     let same = pools_do_not_meet sites t x.0 z.0 p kept ground x.1.0 z.1.0 px pz in
     sym x.1.1 ∙ (ap (λ (y : PoolLine). y.number) same ∙ z.1.1)

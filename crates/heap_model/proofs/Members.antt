@@ -8,7 +8,8 @@ use Rattle.extents.proofs.Lists.{tally-append, tally_at, tally_zero}
 use Rattle.layout_model.specs.Layout.{Used}
 use Rattle.layout_model.specs.Sizes.{capacity}
 use Rattle.layout_model.specs.Sound.{is_pool, pool_times, full_times}
-use Rattle.heap_model.specs.Tables.{Spot, PoolLine, Tables, spot_of}
+use Rattle.layout_model.specs.Geometry.{PoolLine}
+use Rattle.heap_model.specs.Tables.{Spot, Tables, spot_of}
 use Rattle.heap_model.specs.View.{used_at, used_pool, used_of, full_pool, full_in, full_of, layout_of, places_of}
 use Rattle.heap_model.specs.Kept.{has_number, IsKept}
 use Rattle.heap_model.specs.Laws.{place_times}

@@ -6,7 +6,7 @@ use Rattle.std.specs.List.{range_with_len}
 use Rattle.std.proofs.lemmas.List.FromFn.{get_or-map-range_with_len, map-range_with_len_more}
 use Rattle.extents.specs.Sums.{tally, Inserted, Removed, Replaced}
 use Rattle.extents.proofs.Lists.{tally_inserted}
-use Rattle.heap_model.specs.Tables.{PoolLine}
+use Rattle.layout_model.specs.Geometry.{PoolLine}
 use Rattle.heap_model.specs.View.{pick}
 use Rattle.heap_model.specs.Kept.{has_number}
 use Rattle.heap_model.proofs.Picks.{pick_new, pick_kept, pick_none, numbered_same, numbered_set}

@@ -6,7 +6,8 @@ use Rattle.extents.specs.Sums.{tally, Has, Inserted, Removed, Replaced}
 use Rattle.extents.proofs.Lists.{tally_zero, tally_inserted, tally_replaced, has_new, has_kept, has_more}
 use Rattle.layout_model.specs.Sizes.{capacity}
 use Rattle.layout_model.proofs.CallerLemmas.{many}
-use Rattle.heap_model.specs.Tables.{Spot, PoolLine, spot_of}
+use Rattle.layout_model.specs.Geometry.{PoolLine}
+use Rattle.heap_model.specs.Tables.{Spot, spot_of}
 use Rattle.heap_model.specs.Kept.{has_number, is_spot, stands_at, open_at, IsPool, AreOrderly}
 use Rattle.heap_model.proofs.Pools.{replaced_steps, is_spot_self, is_spot_same, is_spot_other, open_value, open_class}
 

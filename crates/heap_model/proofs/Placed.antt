@@ -11,7 +11,8 @@ use Rattle.layout_model.specs.Sound.{IsSound}
 use Rattle.layout_model.specs.Place.{Placed, place, place_by, place_used, place_new, pools_of_class}
 use Rattle.layout_model.specs.Asks.{FitsClass}
 use Rattle.layout_model.proofs.CallerLemmas.{many, place_keeps}
-use Rattle.heap_model.specs.Tables.{Spot, PoolLine, Tables, spot_of, with_one_more}
+use Rattle.layout_model.specs.Geometry.{PoolLine}
+use Rattle.heap_model.specs.Tables.{Spot, Tables, spot_of, with_one_more}
 use Rattle.heap_model.specs.View.{used_at, used_pool, used_of, full_pool, full_in, full_of, layout_of}
 use Rattle.heap_model.specs.Kept.{is_spot, open_at, AreOrderly, IsKept}
 use Rattle.heap_model.specs.Changes.{OneMore, LastOne, NewPool, GavePool, GrantedArena}

@@ -6,7 +6,8 @@ use Rattle.std.proofs.lemmas.List.FromFn.{length-map-range_with_len}
 use Rattle.std.proofs.lemmas.Bool.Decides.{leb_tells}
 use Rattle.extents.specs.Sums.{Has, Inserted, Removed, Replaced}
 use Rattle.extents.proofs.Lists.{has_new}
-use Rattle.heap_model.specs.Tables.{PoolLine, Tables}
+use Rattle.layout_model.specs.Geometry.{PoolLine}
+use Rattle.heap_model.specs.Tables.{Tables}
 use Rattle.heap_model.specs.View.{place_in, places_of}
 use Rattle.heap_model.specs.Kept.{AreOrderly}
 use Rattle.heap_model.specs.Laws.{OthersStay}

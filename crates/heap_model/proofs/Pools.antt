@@ -4,7 +4,8 @@ use Rattle.std.proofs.lemmas.Bool.Decides.{eqb_tells}
 use Rattle.extents.specs.Sums.{tally, Has, Inserted, Removed, Replaced}
 use Rattle.extents.proofs.Lists.{tally_has, tally_le, tally_zero}
 use Rattle.layout_model.specs.Sizes.{capacity}
-use Rattle.heap_model.specs.Tables.{Spot, PoolLine, spot_of, same_spot}
+use Rattle.layout_model.specs.Geometry.{PoolLine}
+use Rattle.heap_model.specs.Tables.{Spot, spot_of, same_spot}
 use Rattle.heap_model.specs.View.{used_pool, used_at, full_pool, full_in, place_in}
 use Rattle.heap_model.specs.Kept.{has_number, is_spot, stands_at, open_at, AreOrderly}
 use Rattle.heap_model.proofs.Picks.{pick_has}

@@ -12,7 +12,8 @@ use Rattle.layout_model.specs.Unplace.{without_pool, find_arena, without_arena, 
 use Rattle.layout_model.proofs.CallerLemmas.{many}
 use Rattle.layout_model.proofs.CallerLemmas.{found_arena, tally_apart}
 use Rattle.layout_model.proofs.CallerLemmas.{only_none_total, one_if_same}
-use Rattle.heap_model.specs.Tables.{Spot, PoolLine, Tables, spot_of}
+use Rattle.layout_model.specs.Geometry.{PoolLine}
+use Rattle.heap_model.specs.Tables.{Spot, Tables, spot_of}
 use Rattle.heap_model.specs.View.{used_at, used_pool, used_of, full_pool, full_of, layout_of}
 use Rattle.heap_model.specs.Kept.{AreOrderly, IsKept}
 use Rattle.heap_model.specs.Changes.{FreedLast, WentFirst, WasPut, WentBack, CameBack}

@@ -11,7 +11,8 @@ use Rattle.layout_model.specs.Place.{pools_of_class}
 use Rattle.layout_model.specs.Unplace.{lowered, without_pool, find_pool, find_class, unplace_used, unplace_by, unplace}
 use Rattle.layout_model.proofs.CallerLemmas.{many}
 use Rattle.layout_model.proofs.CallerLemmas.{unplace_keeps}
-use Rattle.heap_model.specs.Tables.{Spot, PoolLine, Tables, spot_of, with_one_less}
+use Rattle.layout_model.specs.Geometry.{PoolLine}
+use Rattle.heap_model.specs.Tables.{Spot, Tables, spot_of, with_one_less}
 use Rattle.heap_model.specs.View.{used_at, used_pool, used_of, full_pool, full_of, layout_of}
 use Rattle.heap_model.specs.Kept.{is_spot, open_at, AreOrderly, IsKept}
 use Rattle.heap_model.specs.Changes.{FreedFull, FreedOne}

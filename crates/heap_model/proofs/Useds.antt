@@ -4,7 +4,8 @@ use Rattle.std.proofs.lemmas.Bool.Decides.{eqb_tells}
 use Rattle.std.proofs.lemmas.List.{ext_get_or, get_or-set_same, get_or-set_other, length-set, length-map, set-get_or}
 use Rattle.extents.specs.Sums.{Has, Inserted, Removed, Replaced}
 use Rattle.layout_model.specs.Layout.{Used}
-use Rattle.heap_model.specs.Tables.{Spot, PoolLine, spot_of, same_spot}
+use Rattle.layout_model.specs.Geometry.{PoolLine}
+use Rattle.heap_model.specs.Tables.{Spot, spot_of, same_spot}
 use Rattle.heap_model.specs.View.{used_at, used_of, used_pool}
 use Rattle.heap_model.proofs.Picks.{pick_kept, map_same}
 use Rattle.heap_model.proofs.Pools.{replaced_steps, spot_tells}

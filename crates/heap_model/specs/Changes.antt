@@ -5,7 +5,8 @@ use Rattle.layout_model.specs.Sizes.{capacity}
 use Rattle.layout_model.specs.Layout.{Usable}
 use Rattle.layout_model.specs.Place.{after_taking, dry_after_taking}
 use Rattle.layout_model.specs.Unplace.{find_arena, without_arena, put_arena, is_last, arena_back}
-use Rattle.heap_model.specs.Tables.{Spot, PoolLine, Tables, spot_of, with_one_more, with_one_less}
+use Rattle.layout_model.specs.Geometry.{PoolLine}
+use Rattle.heap_model.specs.Tables.{Spot, Tables, spot_of, with_one_more, with_one_less}
 use Rattle.heap_model.specs.View.{layout_of}
 
 -- the arenas stay

@@ -3,7 +3,8 @@ use Rattle.std.specs.Prelude.{◌≡◌, ℕ, ◌<◌, ◌≤◌, ◌==◌, if�
 use Rattle.extents.specs.Sums.{tally, Has}
 use Rattle.layout_model.specs.Sizes.{capacity}
 use Rattle.layout_model.specs.Sound.{IsSound}
-use Rattle.heap_model.specs.Tables.{Spot, PoolLine, Tables, spot_of, same_spot}
+use Rattle.layout_model.specs.Geometry.{PoolLine}
+use Rattle.heap_model.specs.Tables.{Spot, Tables, spot_of, same_spot}
 use Rattle.heap_model.specs.View.{layout_of}
 
 -- 1 for the pool numbered k

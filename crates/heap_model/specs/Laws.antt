@@ -9,7 +9,8 @@ use Rattle.layout_model.specs.Sound.{pool_times, full_times}
 use Rattle.layout_model.specs.Place.{place, after_taking, dry_after_taking}
 use Rattle.layout_model.specs.Unplace.{unplace}
 use Rattle.layout_model.specs.Asks.{FitsClass}
-use Rattle.heap_model.specs.Tables.{Spot, PoolLine, Tables, spot_of, with_one_more, with_one_less}
+use Rattle.layout_model.specs.Geometry.{PoolLine}
+use Rattle.heap_model.specs.Tables.{Spot, Tables, spot_of, with_one_more, with_one_less}
 use Rattle.heap_model.specs.View.{layout_of, places_of}
 use Rattle.heap_model.specs.Kept.{is_open, IsKept}
 use Rattle.heap_model.specs.Changes.{OneMore, LastOne, NewPool, GavePool, GrantedArena, FreedFull, FreedOne, FreedLast, WentFirst, WasPut, WentBack, CameBack}

@@ -1,21 +1,12 @@
 -- What a heap keeps of its pools and arenas, as plain tables.
 use Rattle.std.specs.Prelude.{ℕ, ◌+◌, ◌-◌, ◌==◌, ◌&&◌, Bool, List, [], ◌∷◌, replicate, Option, None}
 use Rattle.layout_model.specs.Layout.{Usable}
+use Rattle.layout_model.specs.Geometry.{PoolLine}
 
 -- a place for a pool: the arena that has it, and how many places of that arena stand before it
 pub record Spot : Type 0 where
   pub arena : ℕ
   pub slot : ℕ
-
--- A pool with blocks in use: its number, the class of its blocks, its arena, which of the arena's places it has,
--- the address where it begins, and how many of its blocks are in use.
-pub record PoolLine : Type 0 where
-  pub number : ℕ
-  pub class : ℕ
-  pub arena : ℕ
-  pub slot : ℕ
-  pub place : ℕ
-  pub live : ℕ
 
 -- `usable` has the arenas with free pools, in the order in which they are asked for one.
 -- `dry` has at each arena's number its total, if it is out and has no free pool.

@@ -3,7 +3,8 @@ use Rattle.std.specs.Prelude.{ℕ, ◌==◌, Bool, if◌then◌else◌, List, []
 use Rattle.std.specs.List.{range_with_len}
 use Rattle.layout_model.specs.Sizes.{capacity}
 use Rattle.layout_model.specs.Layout.{Layout, Used, Full}
-use Rattle.heap_model.specs.Tables.{Spot, PoolLine, Tables, spot_of, same_spot}
+use Rattle.layout_model.specs.Geometry.{PoolLine}
+use Rattle.heap_model.specs.Tables.{Spot, Tables, spot_of, same_spot}
 
 -- what f makes of the first element that passes the test, or d where none does
 abbrev pub pick : {X Y : Type 0} → (X → Bool) → (X → Y) → Y → List X → Y

@@ -23,7 +23,7 @@ ghost use Rattle.heap_model.specs.Tables.{empty_tables};
 ghost use Rattle.heap_model.specs.View.{layout_of};
 ghost use Rattle.heap_model.specs.Kept.{IsKept};
 ghost use Rattle.heap_model.specs.Laws.{OneMoreIsPlaced, LastOneIsPlaced, NewPoolIsPlaced, NewArenaIsPlaced, RefusedIsNotPlaced, FreedFullIsUnplaced, FreedOneIsUnplaced, DryArenaGetsPool, UsableArenaIsPut, WholeArenaGoesBack, PoolComesBack, FirstHasRoom, PoolIsListed, PlacesAreOfPools, ListsHaveOpenPools, ArenasAreFree, StartedAndLent, MendedAndGone, NewArenaGives};
-ghost use Rattle.heap_model.specs.Ground.{PlacesAreInArenas, AddressFindsPool, PoolsDoNotMeet, PlacesDiffer};
+ghost use Rattle.heap_model.specs.Ground.{AddressFindsPool, PoolsDoNotMeet, PlacesDiffer};
 
 /// Empty tables are kept, and stand for the empty layout.
 pub fn empty_tables_are_kept()
@@ -99,11 +99,6 @@ pub fn pool_is_listed()
 /// The pools that have a place are those of the layout.
 pub fn places_are_of_pools()
     ensures { PlacesAreOfPools }
-{}
-
-/// Pools begin at multiples of 16,384 bytes, and all of a pool is in its arena.
-pub fn places_are_in_arenas()
-    ensures { PlacesAreInArenas }
 {}
 
 /// An address and the arenas' bases tell the pool that has the address.

@@ -4,7 +4,7 @@ use Rattle.std.proofs.lemmas.Bool.Decides.{eqb_tells, leb_tells}
 use Rattle.std.proofs.Math.Nat.{mul-div-le, mul-le-mul_left}
 use native.Mathlib.Numerals.{unary_clauses}
 use Rattle.raw_region.specs.Cells.{AtHome, word_at}
-use Rattle.raw_region.proofs.Rules.{home_part, home_inside}
+use Rattle.raw_region.proofs.CallerLemmas.{home_part, home_inside}
 use Rattle.extents.specs.Sums.{Has, Inserted}
 use Rattle.layout_model.specs.Sizes.{size_of_class, capacity}
 use Rattle.pool_core.specs.Pool.{PoolView, new_pool, starts, times, size_of, made_of, blocks_of, live_of, next_block, after_take, after_give, HasRoom, IsFull, IsPool, IsBlock}

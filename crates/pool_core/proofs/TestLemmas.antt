@@ -1,9 +1,9 @@
 -- What the tests need of their pool.
 use Rattle.std.proofs.Common.{◌≡◌, ℕ, ◌+◌, ◌<◌, ◌≤◌, List, [], ◌∷◌, length, Option, refl, sym, ap, subst, ◌∙◌, arith}
 use Rattle.raw_region.specs.Cells.{IsHome, AtHome, AllHome, zeroed}
-use Rattle.raw_region.proofs.Rules.{all_home, home_zeroed, length-zeroed}
+use Rattle.raw_region.proofs.CallerLemmas.{all_home, home_zeroed, length-zeroed}
 use Rattle.extents.specs.Sums.{Has}
-use Rattle.extents.proofs.Lists.{has_other}
+use Rattle.extents.proofs.CallerLemmas.{has_other}
 use Rattle.layout_model.specs.Sizes.{size_of_class, capacity}
 use Rattle.pool_core.specs.Pool.{PoolView, starts, without, size_of, made_of, blocks_of, live_of, after_give, IsPool}
 use Rattle.pool_core.specs.Plain.{StandsFor, OnlyAt, CanGive, after_giving}

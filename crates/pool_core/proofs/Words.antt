@@ -6,7 +6,7 @@ use Rattle.std.proofs.lemmas.Bool.Decides.{eqb_tells, leb_tells}
 use lib.Seq.{ext_get_or, get_or-take, get_or-drop}
 use lib.ListN.{length-set}
 use Rattle.raw_region.specs.Cells.{at_home, IsHome, AtHome, bytes_of, with_run, word_at}
-use Rattle.raw_region.proofs.Rules.{run_has, run_keeps, word_written, word_kept, length-with_run}
+use Rattle.raw_region.proofs.CallerLemmas.{run_has, run_keeps, word_written, word_kept, length-with_run}
 use Rattle.pool_core.specs.Plain.{header_of, home, InRun, OnlyAt}
 
 -- ---- which cells change

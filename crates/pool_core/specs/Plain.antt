@@ -1,8 +1,10 @@
 -- Pools in bytes: which cells stand for which pool.
-use Rattle.std.specs.Prelude.{◌≡◌, ℕ, zero, suc, ◌+◌, ◌-◌, ◌*◌, ◌/◌, ◌%◌, ◌<◌, ◌≤◌, ◌⊎◌, ◌↔◌, Bool, IsTrue, List, [], ◌∷◌, length, map, get_or, Option, Some, None}
+use Rattle.std.specs.Prelude.{◌≡◌, ℕ, zero, suc, ◌+◌, ◌-◌, ◌*◌, ◌/◌, ◌%◌, ◌^◌, ◌<◌, ◌≤◌, ◌⊎◌, ◌↔◌, Bool, IsTrue, List, [], ◌∷◌, length, map, get_or, Option, Some, None}
 use Rattle.raw_region.specs.Cells.{AtHome, word_at}
 use Rattle.extents.specs.Sums.{Has, Inserted, Removed}
-use Rattle.pool_core.specs.Pool.{PoolView, new_pool, size_of, blocks_of, live_of, next_block, after_take, after_give, HasRoom, IsFull, IsEmpty, IsPool, IsBlock}
+use Rattle.layout_model.specs.declared.measures.TheConstants.{HEADER_BYTES, POOL_BYTES}
+use Rattle.layout_model.specs.Sizes.{size_of_class}
+use Rattle.pool_core.specs.Pool.{PoolView, new_pool, size_of, made_of, blocks_of, live_of, next_block, after_take, after_give, HasRoom, IsFull, IsEmpty, IsPool, IsBlock}
 
 -- a pool, with the addresses of the next pool of its list and of the one before it, or 0
 pub record PlainView : Type 0 where
@@ -46,7 +48,7 @@ pair_of low high = low + 4294967296 * high
 
 -- the words of a pool's header: live blocks, head of the free list, next pool, previous pool, arena and class, next offset and the greatest one
 abbrev pub words_of : ℕ → PlainView → List ℕ
-words_of live p = live ∷ head_of p.pool.free ∷ p.next ∷ p.prev ∷ pair_of p.pool.arena p.pool.class ∷ pair_of p.pool.next (16384 - size_of p.pool) ∷ []
+words_of live p = live ∷ head_of p.pool.free ∷ p.next ∷ p.prev ∷ pair_of p.pool.arena p.pool.class ∷ pair_of p.pool.next (POOL_BYTES - size_of p.pool) ∷ []
 
 abbrev pub header_for : PlainView → List ℕ
 header_for p = words_of (live_of p.pool) p
@@ -60,13 +62,13 @@ AreLinked cells at (o ∷ os) = (word_at cells (at + o) ≡ head_of os) × AreLi
 pub record StandsFor (cells : List (Option ℕ)) (at : ℕ) (p : PlainView) : Type 0 where
   pub pool : IsPool p.pool
   pub arena : p.pool.arena < 4294967296
-  pub inside : at + 16384 ≤ length cells
+  pub inside : at + POOL_BYTES ≤ length cells
   pub header : header_of cells at ≡ header_for p
   pub linked : AreLinked cells at p.pool.free
   -- the header, the free blocks and all from the next offset on are at home
-  pub home : AtHome cells at 48
+  pub home : AtHome cells at HEADER_BYTES
   pub free : (o : ℕ) → Has o p.pool.free → AtHome cells (at + o) (size_of p.pool)
-  pub rest : AtHome cells (at + p.pool.next) (16384 - p.pool.next)
+  pub rest : AtHome cells (at + p.pool.next) (POOL_BYTES - p.pool.next)
 
 -- ---- which pool the cells stand for
 
@@ -81,7 +83,7 @@ pool_of_words cells at ws =
     let class : ℕ = get_or ws 4 0 / 4294967296 in
     let next : ℕ = get_or ws 5 0 % 4294967296 in
     record {
-      pool = record { class = class; arena = get_or ws 4 0 % 4294967296; free = free_from cells at ((next - 48) / (16 * (class + 1)) - get_or ws 0 0) (get_or ws 1 0); next = next };
+      pool = record { class = class; arena = get_or ws 4 0 % 4294967296; free = free_from cells at ((next - HEADER_BYTES) / (size_of_class class) - get_or ws 0 0) (get_or ws 1 0); next = next };
       next = get_or ws 2 0;
       prev = get_or ws 3 0;
     }
@@ -148,4 +150,4 @@ pub record GivenOf (new : List (Option ℕ)) (at : ℕ) (p : PlainView) (off : �
 
 -- the cells that giving back the block at an offset writes
 abbrev pub InHeaderOrBlock : ℕ → ℕ → ℕ → Type 0
-InHeaderOrBlock at off i = InRun at 48 i ⊎ InRun (at + off) 8 i
+InHeaderOrBlock at off i = InRun at HEADER_BYTES i ⊎ InRun (at + off) 8 i

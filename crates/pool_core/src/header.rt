@@ -1,6 +1,7 @@
 //! The six words of a pool's header.
 ghost use Rattle.std.specs.Prelude.{◌≡◌, ◌+◌, ◌*◌, ◌/◌, ◌%◌, ◌<◌, ◌≤◌, get_or, set};
 ghost use Rattle.raw_region.specs.Cells.{AtHome, word_at};
+ghost use Rattle.layout_model.specs.declared.measures.TheConstants.{HEADER_BYTES};
 ghost use Rattle.pool_core.specs.Plain.{header_of, pair_of, InRun, OnlyAt};
 
 use raw_region::Region;
@@ -41,7 +42,7 @@ pub(crate) fn high(word: u64) -> u32
 
 // Reads a word of the header at `at`.
 pub(crate) fn word(r: &Region, at: u64, k: u64) -> u64
-    requires home { AtHome r.now.cells at 48 }
+    requires home { AtHome r.now.cells at HEADER_BYTES }
     requires one { k < 6 }
     ensures { result ≡ get_or (header_of r.now.cells at) k 0 }
 {
@@ -52,13 +53,13 @@ pub(crate) fn word(r: &Region, at: u64, k: u64) -> u64
 
 // Writes a word of the header at `at`.
 pub(crate) fn set_word(r: &mut Region, at: u64, k: u64, w: u64)
-    requires home { AtHome r.old.cells at 48 }
+    requires home { AtHome r.old.cells at HEADER_BYTES }
     requires one { k < 6 }
     ensures same { (r.new.base ≡ r.old.base) × (r.new.maker ≡ r.old.maker) }
     ensures header { header_of r.new.cells at ≡ set (header_of r.old.cells at) k w }
     ensures only { OnlyAt (InRun (at + 8 * k) 8) r.old.cells r.new.cells }
-    ensures within { OnlyAt (InRun at 48) r.old.cells r.new.cells }
-    ensures home { AtHome r.new.cells at 48 }
+    ensures within { OnlyAt (InRun at HEADER_BYTES) r.old.cells r.new.cells }
+    ensures home { AtHome r.new.cells at HEADER_BYTES }
 {
     let _inside = r.len();
     r.write_word(at + 8 * k, w);

@@ -9,18 +9,17 @@ use Rattle.extents.specs.Extent.{Extent, covers, region_extent}
 use Rattle.extents.proofs.Lists.{has_left, has_right, has_either, has-map, inserted_first}
 use Rattle.layout_model.specs.Sizes.{capacity}
 use Rattle.pool_core.specs.Pool.{blocks_of, size_of, IsPool}
-use Rattle.heap_model.specs.Tables.{PoolLine}
-use Rattle.heap_model.specs.Ground.{Site, in_arena}
-use Rattle.heap_model.proofs.Ground.{places_are_in_arenas}
+use Rattle.layout_model.proofs.CallerLemmas.{some_pools, pools_are_in_arenas, in_arena_covers}
 use Rattle.arena_set.specs.declared.pool_id.PoolId.{PoolId}
 use Rattle.arena_set.specs.Started.{Started}
 use Rattle.arena_set.specs.Flat.{AllSome, part, flat}
-use Rattle.arena_set.specs.Arena.{ArenaView, total_at, pool_offset, block_extent, pool_loans, arena_loans, IsArena, IsSound}
+use Rattle.layout_model.specs.Geometry.{total_at, pool_offset, Site, in_arena, PoolLine}
+use Rattle.arena_set.specs.Arena.{ArenaView, block_extent, pool_loans, arena_loans, IsArena, IsSound}
 use Rattle.arena_set.specs.Set.{SetView, pool_line, pools_of, regions_of, loans_of, IsSet}
 use Rattle.arena_set.specs.Calls.{IsAt, IsStarted}
-use Rattle.arena_set.proofs.Flats.{inside, all_at, part_same, part_removed, flat_push}
+use Rattle.arena_set.proofs.CallerLemmas.{inside, all_at, part_same, part_removed, flat_push}
 use Rattle.py_heap.specs.Heap.{PoolInRegion}
-use Rattle.py_heap.specs.Kept.{line_of, lines_of, sites_of}
+use Rattle.py_heap.specs.Kept.{lines_of, sites_of}
 
 -- ---- lists made of parts
 
@@ -56,7 +55,7 @@ module _ {X Y : Type 0} (f : ℕ → X → List Y) where
 
 -- the line of a pool that was started
 abbrev pub line_at : PoolId → ArenaView → Started → PoolLine
-line_at id a s = line_of (pool_line id.arena a.region.base id.pool s)
+line_at id a s = pool_line id.arena a.region.base id.pool s
 
 -- the pool of a line
 pub record IsLine (v : SetView) (x : PoolLine) : Type 0 where
@@ -72,35 +71,28 @@ at_number v i m a at there =
     let same : i ≡ m - 1 = omega arith in
     record { some = omega arith; there = subst (λ j. get_or v.arenas j None ≡ Some a) same there }
 
-has_unmap : {X Y : Type 0} (g : X → Y) (y : Y) (xs : List X) → Has y (map g xs) → (x : X) × (Has x xs × (g x ≡ y))
-has_unmap g y [] h = absurd h
-has_unmap g y (x ∷ xs) (inl e) = (x, (inl refl, e))
-has_unmap g y (x ∷ xs) (inr h) = let r = has_unmap g y xs h in (r.0, (inr r.1.0, r.1.1))
-
 has_only : {X : Type 0} (x y : X) → Has x (y ∷ []) → y ≡ x
 has_only x y (inl e) = e
 has_only x y (inr h) = absurd h
 
 pub line_there : (v : SetView) (x : PoolLine) → Has x (lines_of v.arenas) → IsLine v x
 line_there v x h =
-    let l = has_unmap line_of x (pools_of v.arenas) h in
-    let o = in_flat (λ n a. flat (λ k s. pool_line n a.region.base k s ∷ []) 0 a.pools) 1 v.arenas l.0 l.1.0 in
-    let p = in_flat (λ k s. pool_line o.m o.x.region.base k s ∷ []) 0 o.x.pools l.0 o.here in
+    let o = in_flat (λ n a. flat (λ k s. pool_line n a.region.base k s ∷ []) 0 a.pools) 1 v.arenas x h in
+    let p = in_flat (λ k s. pool_line o.m o.x.region.base k s ∷ []) 0 o.x.pools x o.here in
     let same : p.i ≡ p.m = let e = p.at in omega arith in
     record {
       id = record { arena = o.m; pool = p.m };
       a = o.x;
       s = p.x;
       started = record { at = at_number v o.i o.m o.x o.at o.there; there = subst (λ k. get_or o.x.pools k None ≡ Some p.x) same p.there };
-      is = ap line_of (has_only l.0 (pool_line o.m o.x.region.base p.m p.x) p.here) ∙ l.1.1;
+      is = has_only x (pool_line o.m o.x.region.base p.m p.x) p.here;
     }
 
 pub started_there : (v : SetView) (id : PoolId) (a : ArenaView) (s : Started) → IsStarted v id a s → Has (line_at id a s) (lines_of v.arenas)
 started_there v id a s st =
     let some = st.at.some in
-    has-map line_of (pool_line id.arena a.region.base id.pool s) (pools_of v.arenas)
-    (flat_has (λ n a. flat (λ k s. pool_line n a.region.base k s ∷ []) 0 a.pools) 1 (id.arena - 1) id.arena v.arenas a (pool_line id.arena a.region.base id.pool s) (omega arith) st.at.there
-    (flat_has (λ k s. pool_line id.arena a.region.base k s ∷ []) 0 id.pool id.pool a.pools s (pool_line id.arena a.region.base id.pool s) (omega arith) st.there (inl refl)))
+    flat_has (λ n a. flat (λ k s. pool_line n a.region.base k s ∷ []) 0 a.pools) 1 (id.arena - 1) id.arena v.arenas a (pool_line id.arena a.region.base id.pool s) (omega arith) st.at.there
+    (flat_has (λ k s. pool_line id.arena a.region.base k s ∷ []) 0 id.pool id.pool a.pools s (pool_line id.arena a.region.base id.pool s) (omega arith) st.there (inl refl))
 
 -- an arena is one, and so is a pool
 pub at_once : (v : SetView) (n : ℕ) (a b : ArenaView) → IsAt v n a → IsAt v n b → a ≡ b
@@ -125,8 +117,8 @@ pub pool_ground : (v : SetView) (id : PoolId) (a : ArenaView) → IsSet v → Is
 pool_ground v id a s at below =
     let ar = arena_at v id.arena a s at in
     let low : id.pool < total_at a.region.base = subst (λ n. id.pool < n) ar.count below in
-    let p = places_are_in_arenas a.region.base id.pool low in
-    let long = ar.region.long in
+    let p = pools_are_in_arenas a.region.base id.pool low in
+    let long = ar.region.len in
     record { aligned = p.0; inside = (p.1, omega arith) }
 
 -- the pool that has a block
@@ -167,14 +159,11 @@ site_at v site h =
     record { a = o.x; at = subst (λ n. IsAt v n o.x) (ap (λ (s : Site). s.arena) is) (at_number v o.i o.m o.x o.at o.there); base = sym (ap (λ (s : Site). s.base) is) }
 
 -- an address is as often in an arena as in a region
-in_arena_covers : (p : ℕ) (n : ℕ) (a : ArenaView) → length a.region.cells ≡ 1048576 → in_arena p (record { arena = n; base = a.region.base }) ≡ covers p (region_extent a.region)
-in_arena_covers p n a long = rw long refl
-
 covers_sum : (p n : ℕ) (os : List (Option ArenaView)) → AllSome IsArena os →
     tally (in_arena p) (flat (λ n a. record { arena = n; base = a.region.base } ∷ []) n os) ≡ tally (covers p) (flat (λ n a. region_extent a.region ∷ []) n os)
 covers_sum p n [] s = refl
 covers_sum p n (None ∷ os) s = covers_sum p (n + 1) os s
-covers_sum p n (Some a ∷ os) s = let i = covers_sum p (n + 1) os s.1 in let e = in_arena_covers p n a s.0.region.long in omega arith
+covers_sum p n (Some a ∷ os) s = let i = covers_sum p (n + 1) os s.1 in let e = in_arena_covers p n a.region s.0.region.len in omega arith
 
 pub sites_cover : (v : SetView) (p : ℕ) → IsSet v → tally (in_arena p) (sites_of v.arenas) ≡ tally (covers p) (regions_of v.arenas)
 sites_cover v p s = covers_sum p 1 v.arenas s.arenas
@@ -194,13 +183,10 @@ flat_few P f few n (Some x ∷ os) le s =
     let i = flat_few P f few (n + 1) os le s.1 in let a = le n x s.0 in let l = length-append (f n x) (flat f (n + 1) os) in
     let more : few * suc (length os) ≡ few * length os + few = simp unary_clauses (omega arith) in omega arith
 
-pub pools_few : (base : ℕ) → total_at base ≤ 64
-pools_few base = elim (eqb_tells (base % 16384) 0) [ inl w ↦ rw w.0 (omega arith) | inr w ↦ rw w.0 (omega arith) ]
-
 arena_few : (a : ArenaView) → IsArena a → length (arena_loans a) ≤ 65344
 arena_few a s =
     let f = flat_few IsSound (pool_loans a.region.base a.region.maker) 1021 0 a.pools (λ k st p. let l = length-map (blocks_of st.pool) (block_extent a.region.base a.region.maker (pool_offset a.region.base k) (size_of st.pool)) in let m = live_most st p in omega arith) s.sound in
-    let most = pools_few a.region.base in let count = s.count in omega arith
+    let most = (some_pools a.region.base).1 in let count = s.count in omega arith
 
 -- so their number fits
 pub loans_few : (v : SetView) → IsSet v → length (loans_of v.arenas) ≤ 65344 * length v.arenas

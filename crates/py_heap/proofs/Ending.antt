@@ -12,14 +12,13 @@ use Rattle.sources.specs.Source.{SourceView, ArenaShape}
 use Rattle.sources.specs.Holder.{Traded}
 use Rattle.sources.proofs.CallerLemmas.{traded_gave, traded_then}
 use Rattle.pool_core.specs.Pool.{blocks_of, live_of, size_of}
-use Rattle.heap_model.specs.Tables.{PoolLine}
-use Rattle.heap_model.specs.Ground.{Site, in_arena, ArenaHas}
 use Rattle.heap_model.proofs.Counts.{arenas_are_free}
-use Rattle.arena_set.specs.Arena.{ArenaView, total_at, pool_loans, block_extent, pool_offset, arena_loans}
+use Rattle.layout_model.specs.Geometry.{total_at, pool_offset, Site, in_arena, ArenaHas, PoolLine}
+use Rattle.arena_set.specs.Arena.{ArenaView, pool_loans, block_extent, arena_loans}
 use Rattle.arena_set.specs.Set.{SetView, empty_set, line_of as usable_line, dry_of, dry_entry, usable_of, usable_times, regions_of, loans_of, IsSet}
 use Rattle.arena_set.specs.Calls.{IsAt, AllIdle, HasNone, EndsOne}
 use Rattle.arena_set.specs.Flat.{part}
-use Rattle.arena_set.proofs.Flats.{inside, flat_empty}
+use Rattle.arena_set.proofs.CallerLemmas.{inside, flat_empty}
 use Rattle.heap_model.proofs.Pools.{tally_some}
 use Rattle.heap_model.proofs.Empty.{empty_tables_are_kept}
 use Rattle.py_heap.specs.Heap.{empty_heap}
@@ -88,7 +87,7 @@ all_idle s k none n a at =
 -- ---- regions go
 
 regions_some : (v : SetView) (n : ℕ) (a : ArenaView) → IsSet v → IsAt v n a → 1 ≤ length a.region.cells
-regions_some v n a s at = let long = (arena_at v n a s at).region.long in omega arith
+regions_some v n a s at = let long = (arena_at v n a s at).region.len in omega arith
 
 module _ (old new : SetView) (region : RegionView) (one : EndsOne old new region) (sound : IsSet old) (before now after : SourceView ArenaShape) (held0 : List Extent) (traded : Traded held0 (regions_of old.arenas) before now) where
   -- the region is one that is out

@@ -5,16 +5,15 @@ use Rattle.std.proofs.lemmas.List.{map-set, length-set, get_or-set_same, get_or-
 use Rattle.raw_region.specs.Cells.{AllHome}
 use Rattle.raw_region.specs.Region.{RegionView, PieceView}
 use Rattle.extents.specs.Sums.{tally, Has, Removed, Replaced}
-use Rattle.extents.specs.Extent.{Extent, piece_extent, AreApart}
+use Rattle.extents.specs.Extent.{Extent, piece_extent, AreApart, region_extent}
 use Rattle.extents.proofs.Lists.{tally_has, tally_replaced, length_inserted}
 use Rattle.layout_model.specs.Sizes.{capacity}
-use Rattle.layout_model.proofs.CallerLemmas.{many}
+use Rattle.layout_model.proofs.CallerLemmas.{many, some_pools}
 use Rattle.pool_core.specs.Pool.{live_of, blocks_of, size_of, after_give}
-use Rattle.pool_core.proofs.Moves.{gave}
-use Rattle.pool_core.proofs.Blocks.{block_inside}
-use Rattle.heap_model.specs.Tables.{PoolLine, with_one_less}
+use Rattle.pool_core.proofs.CallerLemmas.{gave, block_inside}
+use Rattle.heap_model.specs.Tables.{with_one_less}
 use Rattle.heap_model.specs.Laws.{IsUnplaced}
-use Rattle.heap_model.specs.Ground.{Site, slot_at, ArenaHas, PoolHas, StandsIn, AreStanding}
+use Rattle.heap_model.specs.Ground.{StandsIn, AreStanding}
 use Rattle.heap_model.proofs.Pools.{tally_some, number_self}
 use Rattle.heap_model.proofs.Orderly.{has_after}
 use Rattle.heap_model.proofs.Places.{place_there}
@@ -22,18 +21,18 @@ use Rattle.heap_model.proofs.Ground.{address_finds_pool}
 use Rattle.heap_model.proofs.Unplaced.{freed_full_is_unplaced, freed_one_is_unplaced}
 use Rattle.arena_set.specs.declared.pool_id.PoolId.{PoolId}
 use Rattle.arena_set.specs.Started.{Started}
-use Rattle.arena_set.specs.Arena.{ArenaView, pool_offset, pool_loans, block_extent, piece_offset, after_mending}
+use Rattle.layout_model.specs.Geometry.{pool_offset, Site, slot_at, ArenaHas, PoolHas, PoolLine}
+use Rattle.arena_set.specs.Arena.{ArenaView, pool_loans, block_extent, piece_offset, after_mending}
 use Rattle.arena_set.specs.Set.{SetView, pools_of, regions_of, loans_of, usable_of, dry_of, IsSet}
 use Rattle.arena_set.specs.Calls.{IsStarted, CanMend, Mends, GivesPool}
-use Rattle.arena_set.proofs.Flats.{inside}
-use Rattle.arena_set.proofs.Lending.{PieceOf, piece_of}
+use Rattle.arena_set.proofs.CallerLemmas.{inside, PieceOf, piece_of}
 use Rattle.py_heap.specs.Heap.{InPool}
-use Rattle.py_heap.specs.Kept.{ClassView, State, no_pools, spot, spots_of, line_of, lines_of, sites_of, tables_of, heap_of, class_at, full_in, SameSums, IsKeptState}
+use Rattle.py_heap.specs.Kept.{ClassView, State, no_pools, spot, spots_of, lines_of, sites_of, tables_of, heap_of, class_at, full_in, SameSums, IsKeptState}
 use Rattle.py_heap.specs.Marks.{NoneHas}
 use Rattle.py_heap.specs.Frees.{IsInPool, TakesBack}
 use Rattle.py_heap.proofs.Search.{get_or_any}
-use Rattle.py_heap.proofs.Arenas.{line_at, line_there, started_there, started_once, arena_at, loan_there, site_there, pool_ground, pools_few, sites_cover, sites_same}
-use Rattle.py_heap.proofs.Lending.{replaced-map, pool_inside, pool_sound, full_tells, not_full_in, lists_at}
+use Rattle.py_heap.proofs.Arenas.{line_at, line_there, started_there, started_once, arena_at, loan_there, site_there, pool_ground, sites_cover, sites_same}
+use Rattle.py_heap.proofs.Lending.{pool_inside, pool_sound, full_tells, not_full_in, lists_at}
 
 -- ---- lists with the same sums
 
@@ -110,7 +109,7 @@ module _ (s : State) (k : IsKeptState s) (piece : PieceView) (loan : Has (piece_
   here : Has x (lines_of s.set.arenas)
   here = started_there s.set (the_block).id (the_block).a (the_block).s (the_block).started
 
-  pool_has : PoolHas piece.place x
+  pool_has : PoolHas x.place piece.place
   pool_has = let i = (the_block).inside in let one = (the_block).some in (omega arith, omega arith)
 
   abbrev home : Site
@@ -123,7 +122,7 @@ module _ (s : State) (k : IsKeptState s) (piece : PieceView) (loan : Has (piece_
   home_has =
       let b = the_block in
       let g = pool_ground s.set b.id b.a k.sound_set b.started.at (pool_inside s.set b.id b.a b.s b.started) in
-      let long = (arena_at s.set b.id.arena b.a k.sound_set b.started.at).region.long in let low = g.inside in let has = pool_has in
+      let long = (arena_at s.set b.id.arena b.a k.sound_set b.started.at).region.len in let low = g.inside in let has = pool_has in
       (omega arith, omega arith)
 
   -- some arena has the address
@@ -136,7 +135,7 @@ module _ (s : State) (k : IsKeptState s) (piece : PieceView) (loan : Has (piece_
     found = address_finds_pool (sites_of s.set.arenas) (tables_of s) x m piece.place (standing s k) here pool_has (has_same m s.marks.sites (sites_of s.set.arenas) k.marked there) has
 
     pub in_pool : IsInPool m.base piece.place
-    in_pool = let f = (found).0 in let h = pool_has in let few = pools_few m.base in let low = f.slot in record { slot = x.slot; few = omega arith; low = subst (λ n. n ≤ piece.place) f.place h.0; high = subst (λ n. piece.place < n + 16384) f.place h.1 }
+    in_pool = let f = (found).0 in let h = pool_has in let few = (some_pools m.base).1 in let low = f.slot in record { slot = x.slot; few = omega arith; low = subst (λ n. n ≤ piece.place) f.place h.0; high = subst (λ n. piece.place < n + 16384) f.place h.1 }
 
     pub found_id : (id : PoolId) → id.arena ≡ m.arena → id.pool ≡ slot_at m.base piece.place → CanMend s.set id piece
     found_id id arena pool =
@@ -146,7 +145,7 @@ module _ (s : State) (k : IsKeptState s) (piece : PieceView) (loan : Has (piece_
 -- ---- what a set takes back
 
 -- the region of an arena that goes
-pub region_back : (old new : SetView) (id : PoolId) (r : RegionView) (g : GivesPool old new id (Some r)) → (r ≡ g.a.region) × AllHome r.cells
+pub region_back : (old new : SetView) (id : PoolId) (r : RegionView) (g : GivesPool old new id (Some r)) → (region_extent r ≡ region_extent g.a.region) × AllHome r.cells
 region_back old new id r g = g.region r refl
 
 -- the piece comes home to the pool of the line x
@@ -189,7 +188,7 @@ module _ (old new : SetView) (id : PoolId) (piece : PieceView) (full empty : Boo
 
   pub mend_of : MendOf y full empty old new
   mend_of = record {
-    lines = replaced-map line_of _ _ (pools_of old.arenas) (pools_of new.arenas) m.pools;
+    lines = m.pools;
     was_full = m.was_full;
     now_empty = (λ h. let z = m.now_empty.0 h in let f = fewer in omega arith, λ e. m.now_empty.1 (let f = fewer in omega arith));
     some = let f = fewer in omega arith;

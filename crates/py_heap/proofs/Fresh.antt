@@ -5,6 +5,7 @@ use Rattle.std.proofs.Math.Nat.{zero-div}
 use Rattle.std.proofs.lemmas.List.{get_or_past, map-set, length-set, get_or-set_same, get_or-set_other}
 use Rattle.mem_base.specs.declared.history.Grant.TheVariants.{NotAsked}
 use Rattle.raw_region.specs.Region.{PieceView}
+use Rattle.raw_region.specs.Region.{RegionView}
 use Rattle.extents.specs.Sums.{tally, Has, Inserted}
 use Rattle.extents.specs.Extent.{piece_extent, AreApart}
 use Rattle.extents.proofs.Lists.{tally_inserted, length_inserted, inserted-map}
@@ -13,8 +14,9 @@ use Rattle.layout_model.proofs.CallerLemmas.{many}
 use Rattle.links.specs.Nodes.{times}
 use Rattle.pool_core.specs.Pool.{PoolView, live_of, new_pool, HasRoom}
 use Rattle.pool_core.specs.Plain.{new_plain}
-use Rattle.pool_core.proofs.Moves.{new_is_pool}
-use Rattle.heap_model.specs.Tables.{PoolLine, spot_of, with_one_more}
+use Rattle.pool_core.proofs.CallerLemmas.{new_is_pool}
+use Rattle.layout_model.specs.Geometry.{PoolLine}
+use Rattle.heap_model.specs.Tables.{spot_of, with_one_more}
 use Rattle.heap_model.specs.View.{places_of}
 use Rattle.heap_model.specs.Laws.{IsPlaced}
 use Rattle.heap_model.proofs.Placed.{new_pool_is_placed}
@@ -24,11 +26,11 @@ use Rattle.arena_set.specs.declared.pool_id.PoolId.{PoolId}
 use Rattle.arena_set.specs.Started.{Started, started_of}
 use Rattle.arena_set.specs.Arena.{ArenaView, started_times}
 use Rattle.arena_set.specs.Set.{SetView, pool_line, pools_of, regions_of, loans_of, usable_of, dry_of, IsSet}
-use Rattle.arena_set.specs.Calls.{IsFirst, IsStarted, CanStart, CanLend, TakesPool, Starts, Lends}
+use Rattle.arena_set.specs.Calls.{IsStarted, CanStart, CanLend, TakesPool, Starts, Lends}
 use Rattle.arena_set.specs.Rule.{GavePool}
-use Rattle.arena_set.proofs.Flats.{inside}
+use Rattle.arena_set.proofs.CallerLemmas.{inside}
 use Rattle.py_heap.specs.Heap.{Serves}
-use Rattle.py_heap.specs.Kept.{ClassView, State, no_pools, spot, spots_of, line_of, lines_of, sites_of, tables_of, heap_of, class_at, full_in, IsKeptState}
+use Rattle.py_heap.specs.Kept.{ClassView, State, no_pools, spot, spots_of, lines_of, sites_of, tables_of, heap_of, class_at, full_in, IsKeptState}
 use Rattle.py_heap.proofs.Arenas.{line_at, line_there, at_once, arena_at, sites_same}
 use Rattle.py_heap.proofs.Lending.{LentOf, lent_of, not_full_in, lists_at}
 
@@ -36,29 +38,18 @@ use Rattle.py_heap.proofs.Lending.{LentOf, lent_of, not_full_in, lists_at}
 live_new : (arena c : ℕ) → c < 32 → live_of (new_pool arena c) ≡ 0
 live_new arena c small = let p = new_is_pool arena c small in let live = p.live in let z = zero-div (size_of_class c) in omega arith
 
-module _ (old : State) (k : IsKeptState old) (c n : ℕ) (small : c < 32) (none : (class_at old c).spots ≡ []) (first : IsFirst old.set n)
+module _ (old : State) (k : IsKeptState old) (c : ℕ) (small : c < 32) (none : (class_at old c).spots ≡ [])
     (set1 : SetView) (id : PoolId) (taken : TakesPool old.set set1 id) (gave : GavePool id.arena old.set set1) (regions1 : regions_of set1.arenas ≡ regions_of old.set.arenas)
     (loans1 : loans_of set1.arenas ≡ loans_of old.set.arenas) (pools1 : pools_of set1.arenas ≡ pools_of old.set.arenas) (sound1 : IsSet set1) where
-  same_arena : n ≡ id.arena
-  same_arena =
-      let e = first.usable in let d = taken.first in let heads : n - 1 ≡ id.arena - 1 = cc in
-      let a = first.some in let b = taken.at.some in omega arith
-
   -- no pool is started there
   no_pool : get_or taken.a.pools id.pool None ≡ None
-  no_pool =
-      let free = (arena_at old.set id.arena taken.a k.sound_set taken.at).free id.pool in
-      let one : 1 ≤ times id.pool taken.a.free = subst (λ l. 1 ≤ times id.pool l) (sym taken.pool) (elim (eqb_tells id.pool id.pool) [ inl w ↦ rw w.0 (omega arith) | inr w ↦ absurd (w.1 refl) ]) in
-      none_started (get_or taken.a.pools id.pool None) (omega arith) where
-        none_started : (o : Option Started) → started_times o ≡ 0 → o ≡ None
-        none_started None e = refl
-        none_started (Some s) e = absurd (omega arith)
+  no_pool = ap (λ ps. get_or ps id.pool None) (sym taken.pools) ∙ taken.fresh
 
   abbrev plain : PoolView
   plain = new_pool id.arena c
 
   pub can_start : CanStart set1 id
-  can_start = record { a = record taken.a { free = taken.left }; pool = taken.taken; fresh = no_pool }
+  can_start = record { a = taken.b; pool = taken.taken; fresh = taken.fresh }
 
   -- the pool is started
   module _ (set2 : SetView) (starts : Starts set1 set2 id (started_of old.taken (new_plain id.arena c))) (regions2 : regions_of set2.arenas ≡ regions_of set1.arenas)
@@ -98,13 +89,13 @@ module _ (old : State) (k : IsKeptState old) (c n : ℕ) (small : c < 32) (none 
       y = with_one_more (line_at id a2 s)
 
       base_is : starts.a.region.base ≡ taken.a.region.base
-      base_is = ap (λ (z : ArenaView). z.region.base) (sym (at_once set1 id.arena _ starts.a taken.taken.at starts.at))
+      base_is = ap (λ (z : ArenaView). z.region.base) (sym (at_once set1 id.arena _ starts.a taken.taken.at starts.at)) ∙ ap (λ (x : RegionView). x.base) taken.region
 
       came : Inserted y (lines_of old.set.arenas) (lines_of set3.arenas)
       came =
           let first_come : Inserted (line_at id a2 s) (lines_of old.set.arenas) (lines_of set2.arenas) =
-          subst (λ l. Inserted (line_at id a2 s) (map line_of l) (lines_of set2.arenas)) pools1
-          (subst (λ b. Inserted (line_of (pool_line id.arena b id.pool s)) (map line_of (pools_of set1.arenas)) (lines_of set2.arenas)) (sym starts.change.base) (inserted-map line_of _ (pools_of set1.arenas) (pools_of set2.arenas) starts.pools)) in
+          subst (λ l. Inserted (line_at id a2 s) l (lines_of set2.arenas)) pools1
+              (subst (λ b. Inserted (pool_line id.arena b id.pool s) (pools_of set1.arenas) (lines_of set2.arenas)) (sym starts.change.base) starts.pools) in
           started_and_lent (tables_of old) (line_at id a2 s) (lines_of set2.arenas) (lines_of set3.arenas) k.kept refl first_come (lent).lines
 
       apart_spots : (x : PoolLine) → Has x (lines_of old.set.arenas) → spot_of x ≢ spot_of y
@@ -128,7 +119,7 @@ module _ (old : State) (k : IsKeptState old) (c n : ℕ) (small : c < 32) (none 
       sites_are : sites_of set3.arenas ≡ sites_of old.set.arenas
       sites_are =
           (lent).sites ∙ (ap sites_of starts.arena.arenas ∙ sites_same set1.arenas id.arena starts.a a2 starts.at.some starts.at.there starts.change.base)
-          ∙ (ap sites_of taken.arenas ∙ sites_same old.set.arenas id.arena taken.a (record taken.a { free = taken.left }) taken.at.some taken.at.there refl)
+          ∙ (ap sites_of taken.arenas ∙ sites_same old.set.arenas id.arena taken.a taken.b taken.at.some taken.at.there (ap (λ (x : RegionView). x.base) taken.region))
 
       count_is : length set3.arenas ≡ length old.set.arenas
       count_is = (lent).count ∙ (ap length starts.arena.arenas ∙ length-set set1.arenas (id.arena - 1) (Some a2)) ∙ (ap length taken.arenas ∙ length-set old.set.arenas (id.arena - 1) _)

@@ -11,18 +11,18 @@ use Rattle.layout_model.specs.Layout.{Layout}
 use Rattle.layout_model.specs.Place.{Placed, place, place_by, pools_of_class, granted, new_arena}
 use Rattle.layout_model.specs.Asks.{is_empty, class_asks}
 use Rattle.layout_model.specs.Sound.{IsSound}
-use Rattle.layout_model.proofs.CallerLemmas.{granted_keeps}
+use Rattle.layout_model.proofs.CallerLemmas.{granted_keeps, some_pools}
 use Rattle.heap_model.specs.View.{layout_of, places_of, place_in, used_at, used_of, full_of}
 use Rattle.heap_model.specs.Kept.{IsKept, AreOrderly}
-use Rattle.heap_model.specs.Ground.{Site}
 use Rattle.std.specs.List.{range_with_len}
 use Rattle.links.specs.Nodes.{times}
 use Rattle.arena_set.specs.Flat.{AllSome}
 use Rattle.arena_set.specs.Set.{SetView, lines_of as lines_of_arenas, pools_of, regions_of, loans_of, usable_of, dry_entry, usable_times, IsSet, AreNamed}
-use Rattle.arena_set.specs.Arena.{IsArena, total_at, new_arena as first_arena}
+use Rattle.layout_model.specs.Geometry.{total_at, Site}
+use Rattle.arena_set.specs.Arena.{IsArena, new_arena as first_arena}
 use Rattle.arena_set.specs.Rule.{CameAlone}
 use Rattle.py_heap.specs.Heap.{BeginsIfThere, Serves}
-use Rattle.py_heap.specs.Kept.{ClassView, MarksView, State, no_pools, spots_of, line_of, lines_of, sites_of, tables_of, heap_of, class_at, full_in, IsKeptState}
+use Rattle.py_heap.specs.Kept.{ClassView, MarksView, State, no_pools, spots_of, lines_of, sites_of, tables_of, heap_of, class_at, full_in, IsKeptState}
 use Rattle.py_heap.specs.Steps.{OnlyRoom, Comes}
 use Rattle.py_heap.proofs.Arenas.{sites_more}
 use Rattle.py_heap.proofs.Lending.{lists_at}
@@ -94,11 +94,7 @@ class_room s c v lt spots fulls = record {
 
 -- ---- an arena
 
--- an arena has 63 pools or 64
-some_pools : (base : ℕ) → (63 ≤ total_at base) × (total_at base ≤ 64)
-some_pools base = elim (eqb_tells (base % 16384) 0) as (λ _. (63 ≤ total_at base) × (total_at base ≤ 64)) [ inl w ↦ rw w.0 (omega arith, omega arith) | inr w ↦ rw w.0 (omega arith, omega arith) ]
-
-module _ (old : State) (k : IsKeptState old) (r : RegionView) (set1 : SetView) (m : MarksView) (none : old.set.usable ≡ []) (few : old.given + 1 < 2 ^ 32) (n base top total : ℕ) (number : n ≡ length old.set.arenas + 1)
+module _ (old : State) (k : IsKeptState old) (r : RegionView) (set1 : SetView) (m : MarksView) (none : usable_of old.set ≡ []) (few : old.given + 1 < 2 ^ 32) (n base top total : ℕ) (number : n ≡ length old.set.arenas + 1)
     (base_is : base ≡ r.base) (top_is : top ≡ max old.most (old.given + 1 - old.back)) (total_is : total ≡ total_at base) (rule : CameAlone n (total_at r.base) old.set set1) (arenas : set1.arenas ≡ old.set.arenas ++ Some (first_arena r) ∷ [])
     (regions : Inserted (region_extent r) (regions_of old.set.arenas) (regions_of set1.arenas)) (loans : loans_of set1.arenas ≡ loans_of old.set.arenas) (pools : pools_of set1.arenas ≡ pools_of old.set.arenas) (sound : IsSet set1)
     (marks : m.sites ≡ old.marks.sites ++ record { arena = n; base = base } ∷ []) where
@@ -109,10 +105,10 @@ module _ (old : State) (k : IsKeptState old) (r : RegionView) (set1 : SetView) (
   number_is = number ∙ ap (λ n. n + 1) (sym k.numbered)
 
   lines_are : lines_of set1.arenas ≡ lines_of old.set.arenas
-  lines_are = ap (map line_of) pools
+  lines_are = pools
 
   none_usable : usable_of old.set ≡ []
-  none_usable = ap (lines_of_arenas old.set.arenas) none
+  none_usable = none
 
   layout_is : layout_of (tables_of mid) ≡ granted (layout_of (tables_of old)) (total_at r.base)
   layout_is i = record {
@@ -173,12 +169,12 @@ no_pools_listed s c kept small none =
     let at = lists_at s c kept small in let long = length-map s.classes spots_of in
     get_or-map (map (used_at (lines_of s.set.arenas))) (map spots_of s.classes) c [] [] (omega arith) ∙ ap (map (used_at (lines_of s.set.arenas))) (at.1 ∙ none)
 
-pub granted_serves : (old came new : State) (c : ℕ) (total : ℕ) (r : RegionView) (piece : PieceView) → c < 32 → IsKeptState old → (class_at old c).spots ≡ [] → old.set.usable ≡ [] → total ≡ total_at r.base →
+pub granted_serves : (old came new : State) (c : ℕ) (total : ℕ) (r : RegionView) (piece : PieceView) → c < 32 → IsKeptState old → (class_at old c).spots ≡ [] → usable_of old.set ≡ [] → total ≡ total_at r.base →
     Comes total r old came → Serves c NotAsked (Some piece) (heap_of came) (heap_of new) → Serves c (Granted total) (Some piece) (heap_of old) (heap_of new)
 granted_serves old came new c total r piece small k none dry is m s =
     let l = layout_of (tables_of old) in
     let pools : pools_of_class l c ≡ [] = no_pools_listed old c k.kept small none in
-    let usable : l.usable ≡ [] = ap (lines_of_arenas old.set.arenas) dry in
+    let usable : l.usable ≡ [] = dry in
     let placed : place (layout_of (tables_of came)) c NotAsked ≡ place l c (Granted total) = ap (λ z. place z c NotAsked) m.layout ∙ same_place l c total pools usable in
     let b = s.got.1 in
     record {

@@ -9,8 +9,9 @@ use Rattle.extents.specs.Extent.{Extent, region_extent, piece_extent, AreApart}
 use Rattle.extents.proofs.Lists.{tally_replaced, length_inserted}
 use Rattle.layout_model.specs.Sizes.{size_of_class, capacity}
 use Rattle.pool_core.specs.Pool.{HasRoom, IsPool}
-use Rattle.pool_core.proofs.Moves.{took}
-use Rattle.heap_model.specs.Tables.{Spot, PoolLine, spot_of, with_one_more}
+use Rattle.pool_core.proofs.CallerLemmas.{took}
+use Rattle.layout_model.specs.Geometry.{PoolLine}
+use Rattle.heap_model.specs.Tables.{Spot, spot_of, with_one_more}
 use Rattle.heap_model.specs.Kept.{IsKept}
 use Rattle.heap_model.specs.Laws.{IsPlaced}
 use Rattle.heap_model.proofs.Members.{first_has_room}
@@ -21,21 +22,13 @@ use Rattle.arena_set.specs.Started.{Started}
 use Rattle.arena_set.specs.Arena.{ArenaView, IsSound}
 use Rattle.arena_set.specs.Set.{SetView, pools_of, regions_of, loans_of, usable_of, dry_of, IsSet}
 use Rattle.arena_set.specs.Calls.{IsStarted, CanLend, Lends}
-use Rattle.arena_set.proofs.Flats.{all_at, inside}
+use Rattle.arena_set.proofs.CallerLemmas.{all_at, inside}
 use Rattle.py_heap.specs.Heap.{PoolInRegion, InPool, Serves}
-use Rattle.py_heap.specs.Kept.{ClassView, State, no_pools, spot, spots_of, line_of, lines_of, sites_of, tables_of, heap_of, class_at, full_in, IsKeptState}
+use Rattle.py_heap.specs.Kept.{ClassView, State, no_pools, spot, spots_of, lines_of, sites_of, tables_of, heap_of, class_at, full_in, IsKeptState}
 use Rattle.py_heap.proofs.Search.{get_or_any}
 use Rattle.py_heap.proofs.Arenas.{loans_few, line_at, line_there, started_there, started_once, region_there, arena_at, pool_ground, sites_same}
 
 -- ---- what a set lends
-
-pub replaced-map : {X Y : Type 0} (g : X → Y) (x y : X) (xs ys : List X) → Replaced x y xs ys → Replaced (g x) (g y) (map g xs) (map g ys)
-replaced-map g x y xs ys r = record {
-  before = map g r.before;
-  after = map g r.after;
-  was = ap (map g) r.was ∙ map-append g r.before (x ∷ r.after);
-  is = ap (map g) r.is ∙ map-append g r.before (y ∷ r.after);
-}
 
 -- the pool of the line x lends the piece
 pub record LentOf (x : PoolLine) (piece : PieceView) (full : Bool) (old new : SetView) : Type 0 where
@@ -63,7 +56,7 @@ lent_of old new id piece full a s sound st room l =
     let t = took l.s.pool (pool_sound old id l.a l.s sound l.started) (subst (λ (z : Started). HasRoom z.pool) (sym once.1) room) in
     let live = t.live in
     let made : LentOf (line_at id l.a l.s) piece full old new = record {
-      lines = replaced-map line_of _ _ (pools_of old.arenas) (pools_of new.arenas) l.pools;
+      lines = l.pools;
       fills = (λ h. sym live ∙ l.now_full.0 h, λ e. l.now_full.1 (live ∙ e));
       region = region_extent l.a.region;
       held = region_there old id.arena l.a l.started.at;

@@ -11,12 +11,11 @@ use Rattle.layout_model.specs.Sizes.{capacity}
 use Rattle.layout_model.specs.Unplace.{find_arena, without_arena, put_arena, is_last}
 use Rattle.layout_model.proofs.CallerLemmas.{many}
 use Rattle.pool_core.specs.Pool.{IsEmpty}
-use Rattle.heap_model.specs.Tables.{PoolLine, Tables, with_one_less}
+use Rattle.heap_model.specs.Tables.{Tables, with_one_less}
 use Rattle.heap_model.specs.View.{places_of}
 use Rattle.heap_model.specs.Kept.{has_number}
 use Rattle.heap_model.specs.Laws.{IsUnplaced}
 use Rattle.heap_model.specs.Changes as changes
-use Rattle.heap_model.specs.Ground.{Site, in_arena, ArenaHas}
 use Rattle.heap_model.proofs.Pools.{tally_once, number_self}
 use Rattle.heap_model.proofs.Ground.{placed_pool}
 use Rattle.heap_model.proofs.Returned.{dry_arena_gets_pool, usable_arena_is_put, whole_arena_goes_back}
@@ -24,12 +23,13 @@ use Rattle.heap_model.proofs.Counts.{mended_and_gone}
 use Rattle.heap_model.proofs.Members.{pool_is_listed}
 use Rattle.arena_set.specs.declared.pool_id.PoolId.{PoolId}
 use Rattle.arena_set.specs.Started.{Started}
-use Rattle.arena_set.specs.Arena.{ArenaView, pool_offset, after_give_pool, started_times}
+use Rattle.layout_model.specs.Geometry.{pool_offset, Site, in_arena, ArenaHas, PoolLine}
+use Rattle.arena_set.specs.Arena.{ArenaView, started_times}
 use Rattle.arena_set.specs.Set.{SetView, pool_line, pools_of, regions_of, loans_of, usable_of, dry_of, IsSet}
-use Rattle.arena_set.specs.Calls.{CanMend, CanGive, Mends, PoolsLeft, RegionsLeft, kept_after}
+use Rattle.arena_set.specs.Calls.{CanMend, CanGive, Mends, KeptAfter, PoolsLeft, RegionsLeft}
 use Rattle.arena_set.specs.Rule.{PoolBack}
 use Rattle.py_heap.specs.Heap.{InPool, PoolInRegion, RegionsBack}
-use Rattle.py_heap.specs.Kept.{ClassView, State, no_pools, spot, spots_of, line_of, lines_of, sites_of, tables_of, heap_of, class_at, full_in, SameSums, IsKeptState}
+use Rattle.py_heap.specs.Kept.{ClassView, State, no_pools, spot, spots_of, lines_of, sites_of, tables_of, heap_of, class_at, full_in, SameSums, IsKeptState}
 use Rattle.py_heap.specs.Frees.{CanComeBack, ComesBack, TakesBack, SitesAfter, RegionsLess, went}
 use Rattle.py_heap.proofs.Arenas.{line_at, started_there, at_once, arena_at, pool_ground, site_there, sites_cover, sites_same, sites_fewer}
 use Rattle.py_heap.proofs.Lending.{pool_inside, not_full_in, lists_at}
@@ -134,8 +134,8 @@ module _ (old : State) (k : IsKeptState old) (piece : PieceView) (id : PoolId) (
         let there : get_or b.gives.a.pools id.pool None ≡ Some (then_is).s = subst (λ (z : ArenaView). get_or z.pools id.pool None ≡ Some (then_is).s) (sym arena) (then_is).started.there in
         let removed : Removed (pool_line id.arena b.gives.a.region.base id.pool (then_is).s) (pools_of set1.arenas) (pools_of new.set.arenas) =
         subst (λ o. PoolsLeft o (pool_line id.arena b.gives.a.region.base id.pool) (pools_of set1.arenas) (pools_of new.set.arenas)) there left in
-        let line : line_of (pool_line id.arena b.gives.a.region.base id.pool (then_is).s) ≡ with_one_less pool = ap (λ (z : ArenaView). line_at id z (then_is).s) arena ∙ sym (then_is).is in
-        subst (λ l. Removed l (lines_of set1.arenas) (lines_of new.set.arenas)) line (inserted-map line_of _ (pools_of new.set.arenas) (pools_of set1.arenas) removed)
+        let line : pool_line id.arena b.gives.a.region.base id.pool (then_is).s ≡ with_one_less pool = ap (λ (z : ArenaView). line_at id z (then_is).s) arena ∙ sym (then_is).is in
+        subst (λ l. Removed l (lines_of set1.arenas) (lines_of new.set.arenas)) line removed
 
     gone : Removed pool (lines_of old.set.arenas) (lines_of new.set.arenas)
     gone = mended_and_gone (tables_of old) pool (lines_of set1.arenas) (lines_of new.set.arenas) k.kept (back).lines (pools_less b.gives.pools)
@@ -182,12 +182,13 @@ module _ (old : State) (k : IsKeptState old) (piece : PieceView) (id : PoolId) (
 
     -- ---- the sites
 
-    sites_by : (r : Option RegionView) → SitesAfter r old.marks.sites new.marks.sites → new.set.arenas ≡ set set1.arenas (id.arena - 1) (kept_after b.gives.a id.pool r) → ((q : RegionView) → r ≡ Some q → q ≡ b.gives.a.region) →
+    sites_by : (r : Option RegionView) → SitesAfter r old.marks.sites new.marks.sites → (o : Option ArenaView) → KeptAfter b.gives.a id.pool r o → new.set.arenas ≡ set set1.arenas (id.arena - 1) o → ((q : RegionView) → r ≡ Some q → region_extent q ≡ region_extent b.gives.a.region) →
         SameSums new.marks.sites (sites_of new.set.arenas)
-    sites_by None s e is f =
-        ap (tally f) s ∙ marked f ∙ ap (tally f) (sym (sites_same set1.arenas id.arena b.gives.a (after_give_pool b.gives.a id.pool) b.gives.at.some b.gives.at.there refl)) ∙ ap (λ l. tally f (sites_of l)) (sym e)
-    sites_by (Some r) s e is f =
-        let base : r.base ≡ b.gives.a.region.base = ap (λ (q : RegionView). q.base) (is r refl) in
+    sites_by None s o kept e is f =
+        let base : kept.0.region.base ≡ b.gives.a.region.base = ap (λ (x : Extent). x.place) kept.1.1.extent in
+        ap (tally f) s ∙ marked f ∙ ap (tally f) (sym (sites_same set1.arenas id.arena b.gives.a kept.0 b.gives.at.some b.gives.at.there base)) ∙ ap (λ l. tally f (sites_of l)) (sym (e ∙ ap (set set1.arenas (id.arena - 1)) kept.1.0))
+    sites_by (Some r) s o kept e is f =
+        let base : r.base ≡ b.gives.a.region.base = ap (λ (x : Extent). x.place) (is r refl) in
         let mine : Site = record { arena = id.arena; base = b.gives.a.region.base } in
         let mine_there : Has mine (sites_of set1.arenas) = site_there set1 id.arena b.gives.a b.gives.at in
         let mine_has : ArenaHas r.base mine = (omega arith, omega arith) in
@@ -197,7 +198,7 @@ module _ (old : State) (k : IsKeptState old) (piece : PieceView) (id : PoolId) (
         let alike : s.found ≡ mine = tally_once (in_arena r.base) (sites_of set1.arenas) s.found mine most found_there mine_there (omega arith) (omega arith) in
         let a = tally_inserted f s.found new.marks.sites old.marks.sites s.removed in
         let d = tally_inserted f mine (sites_of (set set1.arenas (id.arena - 1) None)) (sites_of set1.arenas) (sites_fewer set1.arenas id.arena b.gives.a b.gives.at.some b.gives.at.there) in
-        let m = marked f in let g = ap f alike in let h = ap (λ l. tally f (sites_of l)) e in omega arith
+        let m = marked f in let g = ap f alike in let h = ap (λ l. tally f (sites_of l)) (e ∙ ap (set set1.arenas (id.arena - 1)) kept) in omega arith
 
     out_by : (r : Option RegionView) → RegionsLeft r (regions_of set1.arenas) (regions_of new.set.arenas) → new.back ≡ old.back + went r → length (regions_of new.set.arenas) + new.back ≡ old.given
     out_by None left is = let e = ap length left in let r = ap length regions in let o = k.out in omega arith
@@ -222,7 +223,7 @@ module _ (old : State) (k : IsKeptState old) (piece : PieceView) (id : PoolId) (
       few = let e = b.given in let f = k.few in omega arith;
       out = out_by region b.gives.regions b.back_is ∙ sym b.given;
       lent = let p = b.pooled in let l = k.lent in let i = length_inserted (piece_extent piece) (loans_of set1.arenas) (loans_of old.set.arenas) loans in let e = ap length b.loans in omega arith;
-      marked = sites_by region b.sites b.gives.arenas (λ q e. (b.gives.region q e).0);
+      marked = sites_by region b.sites b.gives.left b.gives.kept b.gives.arenas (λ q e. (b.gives.region q e).0);
       full = λ d. let t = tally_inserted (full_in d) pool (lines_of new.set.arenas) (lines_of old.set.arenas) gone in let z = not_full_in d pool half in let o = k.full d in let f = full_is d in omega arith;
     }
 
@@ -234,9 +235,9 @@ module _ (old : State) (k : IsKeptState old) (piece : PieceView) (id : PoolId) (
         let place = ap (λ (y : PoolLine). y.place) (then_is).is in
         subst (λ p. PoolInRegion p (region_extent b.gives.a.region)) (sym place) (subst (λ (z : ArenaView). PoolInRegion ((then_is).a.region.base + pool_offset (then_is).a.region.base id.pool) (region_extent z.region)) arena g)
 
-    back_by : (r : Option RegionView) → RegionsLeft r (regions_of set1.arenas) (regions_of new.set.arenas) → new.back ≡ old.back + went r → ((q : RegionView) → r ≡ Some q → q ≡ b.gives.a.region) → RegionsBack pool.place (heap_of old) (heap_of new)
+    back_by : (r : Option RegionView) → RegionsLeft r (regions_of set1.arenas) (regions_of new.set.arenas) → new.back ≡ old.back + went r → ((q : RegionView) → r ≡ Some q → region_extent q ≡ region_extent b.gives.a.region) → RegionsBack pool.place (heap_of old) (heap_of new)
     back_by None left is mine = inl (omega arith, left ∙ regions)
-    back_by (Some r) left is mine = inr (is, (region_extent r, (subst (λ l. Removed (region_extent r) l (regions_of new.set.arenas)) regions left, subst (λ q. PoolInRegion pool.place (region_extent q)) (sym (mine r refl)) ground)))
+    back_by (Some r) left is mine = inr (is, (region_extent r, (subst (λ l. Removed (region_extent r) l (regions_of new.set.arenas)) regions left, subst (PoolInRegion pool.place) (sym (mine r refl)) ground)))
 
     pub returned_back : InPool (piece_extent piece) pool.place → TakesBack piece region (heap_of old) (heap_of new)
     returned_back lies = record {

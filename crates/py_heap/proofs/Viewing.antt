@@ -14,7 +14,8 @@ use Rattle.layout_model.specs.Sizes.{capacity}
 use Rattle.layout_model.specs.Layout.{Layout}
 use Rattle.layout_model.specs.Place.{pools_of_class}
 use Rattle.pool_core.specs.Pool.{live_of}
-use Rattle.heap_model.specs.Tables.{PoolLine, spot_of}
+use Rattle.layout_model.specs.Geometry.{PoolLine}
+use Rattle.heap_model.specs.Tables.{spot_of}
 use Rattle.heap_model.specs.View.{used_at, full_pool, full_in as full_by, full_of}
 use Rattle.heap_model.specs.Kept.{has_number}
 use Rattle.heap_model.proofs.Pools.{used_here, listed_pool, number_self}

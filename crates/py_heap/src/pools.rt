@@ -1,22 +1,22 @@
 //! What a heap keeps, and the steps of its calls.
 //!
 //! Each step that can fail comes before the arena source is asked, and each change after it.
-ghost use Rattle.std.specs.Prelude.{◌≡◌, ℕ, ◌+◌, ◌^◌, ◌<◌, ◌≤◌, [], length, Some, None, replicate, ◌↔◌, IsTrue, IfOk, OnOk, OnErr, IfSome, IfNone};
+ghost use Rattle.std.specs.Prelude.{◌≡◌, ℕ, ◌+◌, ◌^◌, ◌<◌, ◌≤◌, [], length, Some, None, replicate, ◌↔◌, IsTrue, IfOk, OnOk, OnErr, IfSome, IfNone, IsNone, ◌≢◌};
 ghost use Rattle.mem_base.specs.declared.history.Grant.TheVariants.{NotAsked};
 ghost use Rattle.extents.specs.Sums.{tally, AllIn};
 ghost use Rattle.extents.specs.Extent.{covers};
 ghost use Rattle.pool_core.specs.Pool.{new_pool};
 ghost use Rattle.sources.specs.Holder.{AskedNothing, Traded};
-ghost use Rattle.heap_model.specs.Ground.{total_at};
-ghost use Rattle.arena_set.specs.Set.{loans_of, regions_of, IsSet};
-ghost use Rattle.arena_set.specs.Calls.{AllIdle, IsFirst};
+ghost use Rattle.layout_model.specs.Geometry.{total_at};
+ghost use Rattle.arena_set.specs.Set.{loans_of, regions_of, usable_of, IsSet};
+ghost use Rattle.arena_set.specs.Calls.{AllIdle};
 ghost use Rattle.py_heap.specs.Heap.{empty_heap, Serves};
 ghost use Rattle.py_heap.specs.Kept.{class_at, heap_of, no_pools, IsKeptState};
 ghost use Rattle.py_heap.specs.Steps.{CanCome, Comes, HasRoomFor, HasRoomForArena, IsFailed, IsServed, OnlyRoom};
 
 use crate::HeapGot;
 use crate::classes::ClassPools;
-use crate::counted::{end_one, first_usable, take_pool};
+use crate::counted::{end_one, take_pool};
 use crate::marks::{Mark, Marks};
 use arena_set::{ArenaSet, Lent};
 use mem_base::{Counts, Grant};
@@ -115,26 +115,24 @@ impl Pools {
         Some(piece)
     }
 
-    // The first block of a new pool of the first usable arena.
-    fn lend_new(&mut self, class: u8, arena: u32) -> Piece
+    // The first block of a new pool of the first usable arena. `None` says that no arena is usable.
+    fn lend_new(&mut self, class: u8) -> Option<Piece>
         requires class { class < 32 }
         requires kept { IsKeptState (state_of self.old) }
         requires none { (class_at (state_of self.old) class).spots ≡ [] }
-        requires first { IsFirst self.old.set arena }
         requires room { HasRoomFor class (state_of self.old) }
         requires count { self.old.taken < 2 ^ 63 }
-        ensures kept { IsKeptState (state_of self.new) }
-        ensures serves { Serves class NotAsked (Some result) (heap_of (state_of self.old)) (heap_of (state_of self.new)) }
-        ensures regions { regions_of self.new.set.arenas ≡ regions_of self.old.set.arenas }
+        ensures dry { IsNone result ↔ (usable_of self.old.set ≡ []) }
+        ensures left { IfNone result (self.new ≡ self.old) }
+        ensures serves { IfSome result (λ piece. IsKeptState (state_of self.new) × Serves class NotAsked (Some piece) (heap_of (state_of self.old)) (heap_of (state_of self.new)) × (regions_of self.new.set.arenas ≡ regions_of self.old.set.arenas)) }
     {
-        let _ = arena;
-        let pool = take_pool(&mut self.set);
+        let pool = take_pool(&mut self.set)?;
         self.set.start(pool, class, self.taken);
         self.taken += 1;
         let Lent { piece, now_full: _ } = self.set.lend(pool);
         self.pooled += 1;
         self.classes[class as usize].put_first(pool);
-        piece
+        Some(piece)
     }
 
     // Room for one more pool of the class.
@@ -168,7 +166,7 @@ impl Pools {
         ensures kept { IsKeptState (state_of self.new) }
         ensures comes { Comes result region (state_of self.old) (state_of self.new) }
         ensures total { result ≡ total_at region.base }
-        ensures first { IsFirst self.new.set (self.old.given + 1) }
+        ensures usable { usable_of self.new.set ≢ [] }
     {
         let base = region.base();
         let arena = self.set.add(region);
@@ -187,7 +185,7 @@ impl Pools {
         requires class { class < 32 }
         requires kept { IsKeptState (state_of self.old) }
         requires none { (class_at (state_of self.old) class).spots ≡ [] }
-        requires dry { self.old.set.usable ≡ [] }
+        requires dry { usable_of self.old.set ≡ [] }
         requires room { HasRoomFor class (state_of self.old) }
         requires arena { HasRoomForArena (state_of self.old) }
         requires few { self.old.given + 1 < 2 ^ 32 }
@@ -201,11 +199,13 @@ impl Pools {
         match arenas.ask() {
             Ok(region) => {
                 let total = self.add_arena(region);
-                let piece = self.lend_new(class, self.given as u32);
-                Ok(HeapGot {
-                    piece: Some(piece),
-                    grant: Grant::Granted(total),
-                })
+                match self.lend_new(class) {
+                    Some(piece) => Ok(HeapGot {
+                        piece: Some(piece),
+                        grant: Grant::Granted(total),
+                    }),
+                    None => unreachable!(),
+                }
             }
             Err(AskError::Refused) => Ok(HeapGot {
                 piece: None,
@@ -224,7 +224,7 @@ impl Pools {
         requires class { class < 32 }
         requires kept { IsKeptState (state_of self.old) }
         requires none { (class_at (state_of self.old) class).spots ≡ [] }
-        requires dry { self.old.set.usable ≡ [] }
+        requires dry { usable_of self.old.set ≡ [] }
         requires room { HasRoomFor class (state_of self.old) }
         requires few { self.old.given + 1 < 2 ^ 32 }
         requires count { self.old.taken < 2 ^ 63 }
@@ -236,22 +236,6 @@ impl Pools {
     {
         self.reserve_arena()?;
         self.ask_arena(class, arenas)
-    }
-
-    // A block of class `class` in a new pool of the usable arena with that number.
-    fn alloc_in_usable(&mut self, class: u8, arena: u32) -> Result<Piece, AllocError>
-        requires class { class < 32 }
-        requires kept { IsKeptState (state_of self.old) }
-        requires none { (class_at (state_of self.old) class).spots ≡ [] }
-        requires first { IsFirst self.old.set arena }
-        requires room { HasRoomFor class (state_of self.old) }
-        requires count { self.old.taken < 2 ^ 63 }
-        ensures kept { IsKeptState (state_of self.new) }
-        ensures serves { IfOk result (λ piece. Serves class NotAsked (Some piece) (heap_of (state_of self.old)) (heap_of (state_of self.new))) }
-        ensures regions { OnOk result (regions_of self.new.set.arenas ≡ regions_of self.old.set.arenas) }
-        ensures failed { OnErr result (self.new ≡ self.old) }
-    {
-        Ok(self.lend_new(class, arena))
     }
 
     // A block of class `class`, of which no pool has a free block.
@@ -272,14 +256,11 @@ impl Pools {
         ensures failed { OnErr result (IsFailed (heap_of (state_of self.old)) (heap_of (state_of self.new)) (A.seen arenas.old) (A.seen arenas.new)) }
     {
         self.reserve(class)?;
-        match first_usable(&self.set) {
-            Some(arena) => {
-                let piece = self.alloc_in_usable(class, arena)?;
-                Ok(HeapGot {
-                    piece: Some(piece),
-                    grant: Grant::NotAsked,
-                })
-            }
+        match self.lend_new(class) {
+            Some(piece) => Ok(HeapGot {
+                piece: Some(piece),
+                grant: Grant::NotAsked,
+            }),
             None => self.alloc_in_new(class, arenas),
         }
     }

@@ -1,5 +1,5 @@
 use Rattle.std.proofs.Common.{◌≡◌, ◌+◌, ◌-◌, refl, subst, ap, ◌∙◌, arith, get_or, set}
-use Rattle.raw_region.proofs.Rules.{home_part}
+use Rattle.raw_region.proofs.CallerLemmas.{home_part}
 use Rattle.raw_region.specs.Cells.{AtHome}
 use Rattle.pool_core.specs.Pool.{size_of}
 use Rattle.pool_core.specs.Plain.{header_of, InRun, OnlyAt, PlainView}

@@ -1,6 +1,6 @@
 use Rattle.std.proofs.Common.{◌*◌, ◌+◌, refl, sym, ◌∙◌, ap, subst, arith}
 use Rattle.std.specs.Int.{to_le_bytes, w64}
-use Rattle.raw_region.proofs.Rules.{home_part, home_inside}
+use Rattle.raw_region.proofs.CallerLemmas.{home_part, home_inside}
 use Rattle.pool_core.specs.Plain.{header_of, InRun, OnlyAt}
 use Rattle.pool_core.proofs.Words.{header_written, home_kept, only_more, only_written}
 use Rattle.pool_core.proofs.header.set_word.Goals as goal

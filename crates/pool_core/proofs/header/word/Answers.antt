@@ -1,5 +1,5 @@
 use Rattle.std.proofs.Common.{sym, ◌∙◌, arith}
-use Rattle.raw_region.proofs.Rules.{home_part}
+use Rattle.raw_region.proofs.CallerLemmas.{home_part}
 use Rattle.pool_core.proofs.Words.{header_word}
 use Rattle.pool_core.proofs.header.word.Goals as goal
 

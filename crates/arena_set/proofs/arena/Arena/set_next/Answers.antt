@@ -1,37 +1,58 @@
-use Rattle.std.proofs.Common.{IsSome, Some, None, get_or, reverse, refl, inl, sym, subst, ap, ◌∙◌, ◌≡◌}
+use Rattle.std.proofs.Common.{IsSome, Some, None, get_or, refl, inl, inr, sym, subst, ap, ◌∙◌, ◌≡◌}
+use Rattle.layout_model.specs.Geometry.{pool_offset}
 use Rattle.arena_set.specs.Started.{Started, plain_of}
-use Rattle.arena_set.specs.Arena.{ArenaView, IsArena, PoolChange, arena_loans, arena_view, pool_offset}
+use Rattle.arena_set.specs.FreeChain.{free_list}
+use Rattle.arena_set.specs.Arena.{ArenaView, IsArena, PoolChange, arena_loans, arena_view}
+use Rattle.arena_set.specs.Kept.{IsKept}
 use Rattle.arena_set.proofs.Acts.{links_do, some_there, stands_at}
+use Rattle.arena_set.proofs.Keeping.{still_kept, told_same}
+use Rattle.arena_set.proofs.Lending.{started_taken}
 use Rattle.arena_set.proofs.arena.Arena.set_next.Goals as goal
 
 pub set_next-requires : goal.set_next-requires
 set_next-requires c =
     let s = some_there _ (subst (λ (v : ArenaView). IsSome (get_or v.pools c.args.pool None)) (sym c.self.view_is) c.requires) in
-    record { p = plain_of s.0; stands = stands_at c.self.inside.region (reverse c.self.inside.free.items) c.self.inside.numbers.items c.args.pool c.self.invariant.arena c.offset_of-at.result (c.offset_of-at.ensures ∙ ap (λ b. pool_offset b c.args.pool) c.base.ensures) s.0 s.1 }
+    (stands_at c.self.inside.region (free_list c.self.inside.region c.self.inside.first c.self.inside.free c.self.inside.used) c.self.inside.numbers.items c.args.pool c.self.invariant.arena c.offset_of-at.result (c.offset_of-at.ensures ∙ ap (λ b. pool_offset b c.args.pool) c.base.ensures) s.0 s.1).home
 
 module _ (c : goal.After-set_next) where
   abbrev before : ArenaView
-  before = arena_view c.self.inside.region (reverse c.self.inside.free.items) c.self.inside.numbers.items
+  before = arena_view c.self.inside.region (free_list c.self.inside.region c.self.inside.first c.self.inside.free c.self.inside.used) c.self.inside.numbers.items
+
+  abbrev mid : ArenaView
+  mid = arena_view c.set_next.new.r (free_list c.self.inside.region c.self.inside.first c.self.inside.free c.self.inside.used) c.self.inside.numbers.items
 
   abbrev after : ArenaView
-  after = arena_view c.set_next.new.r (reverse c.self.inside.free.items) c.self.inside.numbers.items
+  after = arena_view c.set_next.new.r (free_list c.set_next.new.r c.self.inside.first c.self.inside.free c.self.inside.used) c.self.inside.numbers.items
 
-  did : (s : Started) → get_or (before).pools c.args.pool None ≡ Some s → IsArena after × (PoolChange before after c.args.pool (record s { next = c.args.place }) × (arena_loans after ≡ arena_loans before))
+  did : (s : Started) → get_or (before).pools c.args.pool None ≡ Some s → IsArena mid × (PoolChange before mid c.args.pool (record s { next = c.args.place }) × (arena_loans mid ≡ arena_loans before))
   did s there =
-      links_do c.self.inside.region (reverse c.self.inside.free.items) c.self.inside.numbers.items c.args.pool c.self.invariant.arena c.offset_of-at.result (c.offset_of-at.ensures ∙ ap (λ b. pool_offset b c.args.pool) c.base.ensures) s there c.args.place s.prev _ (inl refl) c.set_next.new.r c.set_next.ensures.same.0 c.set_next.ensures.same.1 c.set_next.ensures.only
-      (c.set_next.ensures.stands (plain_of s) (stands_at c.self.inside.region (reverse c.self.inside.free.items) c.self.inside.numbers.items c.args.pool c.self.invariant.arena c.offset_of-at.result (c.offset_of-at.ensures ∙ ap (λ b. pool_offset b c.args.pool) c.base.ensures) s there))
+      links_do c.self.inside.region (free_list c.self.inside.region c.self.inside.first c.self.inside.free c.self.inside.used) c.self.inside.numbers.items c.args.pool c.self.invariant.arena c.offset_of-at.result (c.offset_of-at.ensures ∙ ap (λ b. pool_offset b c.args.pool) c.base.ensures) s there c.args.place s.prev _ (inl refl) c.set_next.new.r c.set_next.ensures.same.0 c.set_next.ensures.same.1 c.set_next.ensures.only
+      (c.set_next.ensures.stands (plain_of s) (stands_at c.self.inside.region (free_list c.self.inside.region c.self.inside.first c.self.inside.free c.self.inside.used) c.self.inside.numbers.items c.args.pool c.self.invariant.arena c.offset_of-at.result (c.offset_of-at.ensures ∙ ap (λ b. pool_offset b c.args.pool) c.base.ensures) s there))
 
   some : (s : Started) × (get_or (before).pools c.args.pool None ≡ Some s)
   some = some_there _ (subst (λ (v : ArenaView). IsSome (get_or v.pools c.args.pool None)) (sym c.self.view_is) c.requires)
 
+  same : (s : Started) → get_or (before).pools c.args.pool None ≡ Some s → mid ≡ after
+  same s there =
+      told_same c.self.inside.region c.set_next.new.r c.self.inside.first c.self.inside.free c.self.inside.used c.self.inside.numbers.items c.self.inside.numbers.items c.args.pool (record s { next = c.args.place }) c.self.invariant
+      (did s there).0 (did s there).1.0 (started_taken before c.args.pool s c.self.invariant.arena there)
+
+  kept : IsKept c.set_next.new.r c.self.inside.first c.self.inside.free c.self.inside.used c.self.inside.numbers.items
+  kept =
+      let s = (some).0 in let there = (some).1 in
+      still_kept c.self.inside.region c.set_next.new.r c.self.inside.first c.self.inside.free c.self.inside.used c.self.inside.numbers.items c.self.inside.numbers.items c.args.pool (record s { next = c.args.place }) c.self.invariant
+      (did s there).0 (did s there).1.0 (started_taken before c.args.pool s c.self.invariant.arena there)
+
 pub invariant_of-self : goal.invariant_of-self
-invariant_of-self c = record { arena = (did c (some c).0 (some c).1).0; room = c.self.invariant.room }
+invariant_of-self c = kept c
 
 pub returns-clause-arena : goal.returns-clause-arena
-returns-clause-arena c = (did c (some c).0 (some c).1).0
+returns-clause-arena c = (kept c).arena
 
 pub returns-clause-loans : goal.returns-clause-loans
-returns-clause-loans c = (did c (some c).0 (some c).1).1.1 ∙ ap arena_loans c.self.view_is
+returns-clause-loans c = ap arena_loans (sym (same c (some c).0 (some c).1)) ∙ ((did c (some c).0 (some c).1).1.1 ∙ ap arena_loans c.self.view_is)
 
 pub returns-clause-after : goal.returns-clause-after
-returns-clause-after c s there = subst (λ v. PoolChange v (after c) c.args.pool (record s { next = c.args.place })) c.self.view_is (did c s (subst (λ (v : ArenaView). get_or v.pools c.args.pool None ≡ Some s) (sym c.self.view_is) there)).1.0
+returns-clause-after c s there =
+    let was = subst (λ (v : ArenaView). get_or v.pools c.args.pool None ≡ Some s) (sym c.self.view_is) there in
+    subst (λ v. PoolChange v (after c) c.args.pool (record s { next = c.args.place })) c.self.view_is (subst (λ x. PoolChange (before c) x c.args.pool (record s { next = c.args.place })) (same c s was) (did c s was).1.0)

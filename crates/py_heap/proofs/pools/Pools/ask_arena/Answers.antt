@@ -20,12 +20,12 @@ add_arena-total-requires-clause-come g c = record {
   few = c.requires.few;
 }
 
-pub returns-in-Ok-clause-served : goal.returns-in-Ok-clause-served
-returns-in-Ok-clause-served g c =
-    let s = state_of c.args.self.now in let q = c.requires in let a = c.add_arena-total in let l = c.lend_new-piece in let e = c.in-Ok.ensures in let r = region_extent c.in-Ok.region in
-    let serves = granted_serves s (state_of a.new.self) (state_of l.new.self) c.args.class a.result c.in-Ok.region l.result q.class q.kept q.none q.dry a.ensures.total a.ensures.comes l.ensures.serves in
-    served_granted (heap_of s) (heap_of (state_of l.new.self)) (g.A.ArenaSource.seen c.args.arenas.now) (g.A.ArenaSource.seen c.ask.new.self) q.held e.asked e.plan e.window e.shape c.args.class a.result (Some l.result) r serves (e.arena.len, a.ensures.total, e.granted.inside, e.granted.apart) e.refused (λ planned. let wrong = e.planned planned in cc)
-    (subst (λ rs. Inserted r (regions_of c.args.self.now.set.arenas) rs) (sym l.ensures.regions) a.ensures.comes.regions) e.granted.added
+pub returns-in-Some-clause-served : goal.returns-in-Some-clause-served
+returns-in-Some-clause-served g c =
+    let s = state_of c.args.self.now in let q = c.requires in let a = c.add_arena-total in let l = c.lend_new in let p = c.in-Some in let e = c.in-Ok.ensures in let r = region_extent c.in-Ok.region in
+    let serves = granted_serves s (state_of a.new.self) (state_of l.new.self) c.args.class a.result c.in-Ok.region p.piece q.class q.kept q.none q.dry a.ensures.total a.ensures.comes p.ensures.serves.1 in
+    served_granted (heap_of s) (heap_of (state_of l.new.self)) (g.A.ArenaSource.seen c.args.arenas.now) (g.A.ArenaSource.seen c.ask.new.self) q.held e.asked e.plan e.window e.shape c.args.class a.result (Some p.piece) r serves (e.arena.len, a.ensures.total, e.granted.inside, e.granted.apart) e.refused (λ planned. let wrong = e.planned planned in cc)
+    (subst (λ rs. Inserted r (regions_of c.args.self.now.set.arenas) rs) (sym p.ensures.serves.2) a.ensures.comes.regions) e.granted.added
 
 pub returns-in-Err-Refused-clause-served : goal.returns-in-Err-Refused-clause-served
 returns-in-Err-Refused-clause-served g c =
