@@ -280,9 +280,9 @@ def find_places(lines):
     return POOLS_OF_ARENA
 
 
-def read_story(text, most_points=1000):
-    """Follows a whole report. Of each stretch of events two points are kept: the one at which most bytes were asked for, and the
-    last one."""
+def read_story(text, tell=lambda done, count: None, most_points=1000):
+    """Follows a whole report, and tells now and then how many events are done. Of each stretch of events two points are kept: the one
+    at which most bytes were asked for, and the last one."""
     lines = text.split("\n")
     events = list(read_events(lines))
     following = Following(find_places(lines))
@@ -291,6 +291,8 @@ def read_story(text, most_points=1000):
     for event in events:
         following.follow(event)
         point = following.point(event.number)
+        if event.number % 16384 == 0:
+            tell(event.number, len(events))
         if highest is None or point.asked > highest.asked:
             highest = point
         if event.number % stretch == 0 or event is events[-1]:
