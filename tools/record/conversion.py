@@ -232,7 +232,7 @@ class Conversion:
             self.remarks.append(f"a mark that is no operation for marks is left out: {line!r}")
 
     def keep_damage(self, record):
-        """The poke that writes what was found in the pads. None may forge a letter, so one at -8 that would begins behind it."""
+        """The poke that writes what was found in the pads. None may forge a letter: one that would begins behind it, at -7."""
         offset = record.a if record.a < 1 << 63 else record.a - (1 << 64)
         found = record.b.to_bytes(8, "little")
         if offset == -8 and chr(found[0]) in LETTERS:
@@ -279,7 +279,8 @@ class Conversion:
             self.letters.pop(record.ident, None)
 
     def count_raw(self, record, letter):
-        """Follows the raw memory that a replay takes. A block of another size in raw memory is a new region, with the old one still out."""
+        """Follows the raw memory that a replay takes. A block in raw memory that gets another size is a new region, and the old one
+        goes back after that."""
         old, new = self.raw.pop(record.ident, 0), 0
         if record.kind in ALLOCATIONS:
             need = record.a * (record.b if record.kind == CALLOC else 1) + HOOK_BYTES
@@ -335,7 +336,9 @@ class Conversion:
         if self.has_faulted:
             told.append("the last operation is a call that the debug hooks refuse: the replay ends there with a fault")
         if self.raw_most > RAW_BYTES:
-            told.append(f"up to {self.raw_most:,} bytes of raw memory at once: a call past the {RAW_BYTES:,} of a replay answers null there")
+            told.append(
+                f"up to {self.raw_most:,} bytes of raw memory at once: a call past the {RAW_BYTES:,} of a replay answers null there"
+            )
         if header.end != ASKED_TO_STOP:
             told.append(ENDS[header.end])
         counts = (

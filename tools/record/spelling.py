@@ -18,7 +18,8 @@ def shorten(name, prefixes):
 
 
 def to_bytes(name):
-    """The bytes of a name: those that Python could not read as UTF-8 as they were, other lone surrogates as if they were characters."""
+    """The bytes of a name: those that Python could not read as UTF-8 are as they were, and other lone surrogates as if they were
+    characters."""
     try:
         return name.encode("utf-8", "surrogateescape")
     except UnicodeEncodeError:

@@ -8,6 +8,8 @@ import unittest
 TOOLS = os.path.dirname(os.path.dirname(os.path.abspath(__file__)))
 PROGRAM = os.environ.get("PYMTRACE", "")
 RECORD = os.path.join(TOOLS, "record", "pymrecord")
+DRAW = os.path.join(TOOLS, "draw", "pymdraw")
+SNAP = os.path.join(TOOLS, "snapshot", "pymsnap")
 
 for folder in ("record", "snapshot", "draw"):
     sys.path.insert(0, os.path.join(TOOLS, folder))
@@ -24,11 +26,12 @@ def takes(operations):
     return bool(PROGRAM) and replay("pymtrace 1\ntrack t\n" + operations)[0] == 0
 
 
-def can_record():
-    """Whether the hooks can be built here for the interpreter that runs the tests."""
+def find_hooks():
+    """Whether the hooks can be built here for the interpreter that runs the tests, and whether they can record from its start."""
     with tempfile.TemporaryDirectory() as folder:
         build = os.path.join(TOOLS, "record", "build")
-        return subprocess.run([build, sys.executable, folder], capture_output=True).returncode == 0
+        built = subprocess.run([build, sys.executable, folder], capture_output=True).returncode == 0
+        return built, not built or os.path.exists(os.path.join(folder, "pymhooks-python"))
 
 
 told = set()

@@ -17,7 +17,8 @@ PLAIN = Options(heaps=0)
 
 def log_of(records, text=b"", end=STOPPED, earlier_frees=0):
     """A log of records (kind, domain, thread, id, a, b), read back from the bytes that the hooks would have written."""
-    header = struct.pack("<8s12Q", b"pymlog1\0", 0x030C0100, len(records), len(records) + 2, len(text), end, 1, 1, earlier_frees, 0, 0, 0, 0)
+    counts = (0x030C0100, len(records), len(records) + 2, len(text), end, 1, 1, earlier_frees, 0, 0, 0, 0)
+    header = struct.pack("<8s12Q", b"pymlog1\0", *counts)
     data = header.ljust(4096, b"\0") + b"".join(struct.pack("<BBHIQQ", *record) for record in records) + bytes(48) + text
     with tempfile.TemporaryDirectory() as folder:
         path = os.path.join(folder, "log")
@@ -59,7 +60,8 @@ class OneTrack(unittest.TestCase):
     def test_the_heap_is_shown_evenly(self):
         records = [(MALLOC, MEM, 0, k, 1, 0) for k in range(1, 6)]
         lines = trace_of(records, Options(heaps=2))
-        expected = ["acquire", "malloc m b1 1", "malloc m b2 1", "heap", "malloc m b3 1", "malloc m b4 1", "heap", "malloc m b5 1", "heap"]
+        expected = ["acquire", "malloc m b1 1", "malloc m b2 1", "heap"]
+        expected += ["malloc m b3 1", "malloc m b4 1", "heap", "malloc m b5 1", "heap"]
         self.assertEqual(lines[2:], expected)
 
     def test_a_mark_of_the_program_is_an_operation(self):
@@ -90,7 +92,8 @@ class Frames(unittest.TestCase):
             (FREE, MEM, 0, 1, 0, 0),
             (MALLOC, MEM, 0, 2, 6, 0),
         ]
-        expected = ["acquire", "start 3", "call a.py 7", "call b%20c.py 3", "malloc m b1 5", "free m b1", "return", "line 8", "malloc m b2 6"]
+        expected = ["acquire", "start 3", "call a.py 7", "call b%20c.py 3", "malloc m b1 5", "free m b1"]
+        expected += ["return", "line 8", "malloc m b2 6"]
         expected += ["heap", "traced", "snapshot end", "stats end lineno plain 10"]
         self.assertEqual(trace_of(records, Options(frames=3, heaps=0), text=self.TEXT)[2:], expected)
 
@@ -100,15 +103,17 @@ class Frames(unittest.TestCase):
 
     def test_damage_is_a_poke_before_the_call_that_meets_it(self):
         tail = int.from_bytes(bytes.fromhex("00fdfdfdfdfdfdfd"), "little")
-        records = self.FILES + [(CALL, 0, 0, 0, 7, 0), (MALLOC, MEM, 0, 1, 32, 0), (DAMAGE, MEM, 0, 1, 32, tail), (LINE, 0, 0, 0, 9, 0)]
-        records += [(FREE, MEM, 0, 1, 0, 0), (MALLOC, MEM, 0, 2, 1, 0)]
-        expected = ["acquire", "start 1", "call a.py 7", "malloc m b1 32", "poke b1 32 00fdfdfdfdfdfdfd", "where b1", "line 9", "free m b1"]
+        records = self.FILES + [(CALL, 0, 0, 0, 7, 0), (MALLOC, MEM, 0, 1, 32, 0)]
+        records += [(DAMAGE, MEM, 0, 1, 32, tail), (LINE, 0, 0, 0, 9, 0), (FREE, MEM, 0, 1, 0, 0), (MALLOC, MEM, 0, 2, 1, 0)]
+        expected = ["acquire", "start 1", "call a.py 7", "malloc m b1 32"]
+        expected += ["poke b1 32 00fdfdfdfdfdfdfd", "where b1", "line 9", "free m b1"]
         self.assertEqual(trace_of(records, Options(frames=1, heaps=0), text=self.TEXT)[2:], expected)
 
 
 class Faults(unittest.TestCase):
     def test_a_poke_does_not_forge_a_letter(self):
-        for found, line in (("6d41fdfdfdfdfdfd", "poke b1 -7 41fdfdfdfdfdfd"), ("4141fdfdfdfdfdfd", "poke b1 -8 4141fdfdfdfdfdfd")):
+        heads = {"6d41fdfdfdfdfdfd": "poke b1 -7 41fdfdfdfdfdfd", "4141fdfdfdfdfdfd": "poke b1 -8 4141fdfdfdfdfdfd"}
+        for found, line in heads.items():
             damage = int.from_bytes(bytes.fromhex(found), "little")
             records = [(MALLOC, MEM, 0, 1, 32, 0), (DAMAGE, MEM, 0, 1, (1 << 64) - 8, damage), (REALLOC, MEM, 0, 1, 50, 0)]
             self.assertEqual(trace_of(records)[3:], ["malloc m b1 32", line, "realloc m b1 50"])
@@ -135,7 +140,8 @@ class Tracks(unittest.TestCase):
         self.assertEqual(trace_of(records), expected)
 
     def test_a_track_of_an_ended_thread_is_used_again(self):
-        records = [(MALLOC, RAW, k, k + 1, 5, 0) for k in range(64)] + [(THREAD_END, 0, 5, 0, 0, 0), (MALLOC, RAW, 64, 65, 5, 0)]
+        records = [(MALLOC, RAW, k, k + 1, 5, 0) for k in range(64)]
+        records += [(THREAD_END, 0, 5, 0, 0, 0), (MALLOC, RAW, 64, 65, 5, 0)]
         lines = trace_of(records)
         self.assertEqual(sum(line.startswith("track ") for line in lines), 64)
         self.assertEqual(lines[lines.index("track t5") + 1 :][:2], ["malloc r b6 5", "malloc r b65 5"])
@@ -151,7 +157,8 @@ class Limits(unittest.TestCase):
         text, remarks = convert(log_of([(MALLOC, RAW, 0, k, 5, 0) for k in range(1, 40)]), Options(most_operations=20, heaps=3))
         lines = text.split("\n")[2:-1]
         self.assertEqual((len(lines), lines.count("heap"), lines[-1]), (20, 4, "heap"))
-        self.assertTrue(any(remark.startswith("cut after 16 of 39 calls, since there are too many operations:") for remark in remarks))
+        cut = "cut after 16 of 39 calls, since there are too many operations:"
+        self.assertTrue(any(remark.startswith(cut) for remark in remarks))
 
     def test_bytes_that_are_too_many_cut_the_trace(self):
         records = [(FILE_NAME, 0, 0, 0, 0, 250), (FILE_NAME, 0, 0, 1, 250, 250)]

@@ -12,7 +12,6 @@ from heap_shape import Differs, read_story
 from pictures import NothingToDraw, draw_growth, draw_map, draw_time
 from stacks import collapse
 
-DRAW = os.path.join(here.TOOLS, "draw", "pymdraw")
 EXAMPLES = os.path.join(os.path.dirname(here.TOOLS), "examples")
 
 SUMMARY = "summary events 6 status 0\nsummary lock t\n"
@@ -63,7 +62,7 @@ def example(name):
 
 
 def draw(what, text):
-    return subprocess.run([sys.executable, "-B", DRAW, what], input=text, capture_output=True, text=True)
+    return subprocess.run([sys.executable, "-B", here.DRAW, what], input=text, capture_output=True, text=True)
 
 
 class Following(unittest.TestCase):
@@ -144,8 +143,8 @@ class Pictures(unittest.TestCase):
         self.assertEqual(draw("growth", "groups 0\n").stderr, "pymdraw: the input is not what the command growth prints\n")
 
     def test_stacks_of_a_dump_are_summed(self):
-        dump = ["pysnap 1", "limit 2", "trace 0 a 10 2 /m.py:1 /f.py:2", "trace 0 b 5 3 /m.py:1 /f.py:2", "trace 0 c 7 1 /m.py:1", "end"]
-        self.assertEqual(collapse(dump), ["/m.py:1 7", "/m.py:1;/f.py:2 15"])
+        traces = ["trace 0 a 10 2 /m.py:1 /f.py:2", "trace 0 b 5 3 /m.py:1 /f.py:2", "trace 0 c 7 1 /m.py:1"]
+        self.assertEqual(collapse(["pysnap 1", "limit 2", *traces, "end"]), ["/m.py:1 7", "/m.py:1;/f.py:2 15"])
 
     def test_other_words_are_refused(self):
         self.assertEqual(draw("maps", "").returncode, 2)

@@ -13,7 +13,6 @@ import here
 import pymsnap
 from here import needs
 
-SNAP = os.path.join(here.TOOLS, "snapshot", "pymsnap")
 SMALL = "pysnap 1\nlimit 1\ntrace 0 t0000001 10 3 f.py:2\nend\n"
 
 
@@ -71,7 +70,7 @@ class Files(unittest.TestCase):
 
     def test_a_file_of_a_snapshot_is_written_as_its_dump(self):
         made([(0, 10, (("f.py", 2),), 3)], 1).dump(self.path)
-        ran = subprocess.run([sys.executable, "-B", SNAP, self.path, self.path], capture_output=True, text=True)
+        ran = subprocess.run([sys.executable, "-B", here.SNAP, self.path, self.path], capture_output=True, text=True)
         self.assertEqual((ran.returncode, ran.stdout), (0, SMALL + SMALL))
 
     def test_a_file_that_names_anything_else_is_not_run(self):
@@ -82,7 +81,7 @@ class Files(unittest.TestCase):
         evidence = os.path.join(self.folder.name, "evidence")
         with open(self.path, "wb") as file:
             pickle.dump(Runs(), file)
-        ran = subprocess.run([sys.executable, "-B", SNAP, self.path], capture_output=True, text=True)
+        ran = subprocess.run([sys.executable, "-B", here.SNAP, self.path], capture_output=True, text=True)
         self.assertEqual((ran.returncode, ran.stdout), (1, ""))
         self.assertIn("no snapshot: it names", ran.stderr)
         self.assertFalse(os.path.exists(evidence))
