@@ -73,6 +73,16 @@ class Files(unittest.TestCase):
         ran = subprocess.run([sys.executable, "-B", here.SNAP, self.path, self.path], capture_output=True, text=True)
         self.assertEqual((ran.returncode, ran.stdout), (0, SMALL + SMALL))
 
+    def test_a_leak_is_followed_to_its_line(self):
+        script = os.path.join(os.path.dirname(here.TOOLS), "examples", "scripts", "leak.py")
+        code = "import runpy, sys, tracemalloc\nkept = runpy.run_path(sys.argv[1])\ntracemalloc.take_snapshot().dump(sys.argv[2])\n"
+        subprocess.run([sys.executable, "-X", "tracemalloc=2", "-c", code, script, self.path], check=True)
+        dump = subprocess.run([sys.executable, "-B", here.SNAP, "--strip", script + "=leak.py", self.path], capture_output=True, text=True)
+        stacks = subprocess.run([sys.executable, "-B", here.DRAW, "stacks"], input=dump.stdout, capture_output=True, text=True).stdout
+        sums = dict(line.rsplit(" ", 1) for line in stacks.splitlines())
+        # Each of the 8,000 answers has at least ten times 19 letters, and a string takes 40 bytes and more beside its letters.
+        self.assertGreater(int(sums["leak.py:14;leak.py:8"]), 8000 * (10 * 19 + 40))
+
     def test_a_file_that_names_anything_else_is_not_run(self):
         class Runs:
             def __reduce__(self):
