@@ -1,12 +1,12 @@
 -- Blocks of two heaps: which of them a block is of, and what stays of what is held.
-use Rattle.std.proofs.Common.{◌≡◌, ◌≢◌, ℕ, zero, suc, ◌+◌, ◌<◌, ◌≤◌, Bool, true, false, List, [], ◌∷◌, length, Option, Some, None, Result, Ok, Err, OnErr, refl, sym, ap, subst, ◌∙◌, arith, inl, inr, ◌⊎◌}
+use Rattle.std.proofs.Common.{true≢false, ◌≡◌, ◌≢◌, ℕ, zero, suc, ◌+◌, ◌*◌, ◌<◌, ◌≤◌, Bool, true, false, List, [], ◌∷◌, length, Option, Some, None, Result, Ok, Err, OnErr, refl, sym, ap, subst, ◌∙◌, arith, inl, inr, ◌⊎◌}
 use Rattle.std.specs.Prelude.{◌&&◌, ◌||◌, not, nat_le}
 use Rattle.std.proofs.lemmas.Bool.{le-leb, leb-true}
 use Rattle.mem_base.specs.declared.history.Ask.{Ask}
 use Rattle.mem_base.specs.declared.history.Ask.TheVariants as ask
 use Rattle.mem_base.specs.declared.history.Grant.{Grant}
 use Rattle.mem_base.specs.declared.history.Grant.TheVariants as grant
-use Rattle.layout_model.specs.Asks.{FitsClass, FitsRequest, class_asks, is_refused, raw_was_asked}
+use Rattle.layout_model.specs.Asks.{FitsClass, FitsRequest, Request, class_asks, is_refused, raw_was_asked}
 use Rattle.layout_model.specs.Asks.Request.{FromPools, FromRaw}
 use Rattle.layout_model.specs.Layout.{Layout}
 use Rattle.layout_model.specs.Sizes.{class_of, is_small}
@@ -18,13 +18,18 @@ use Rattle.sources.specs.Holder.{Answered, AskedAtMostOnce, AskedUnrefused, Trad
 use Rattle.sources.specs.Source.{ArenaShape, SourceView}
 use Rattle.sources.proofs.CallerLemmas.{traded_nothing, unrefused_nothing}
 use Rattle.request_model.specs.Counts.{arena_asks, arena_refusals}
+use Rattle.request_model.specs.Decision.{fits_in_place}
+use Rattle.request_model.proofs.CallerLemmas.{fits_in_place_so, no_fit}
 use Rattle.py_heap.specs.Heap.{HeapView, RegionsAfter, RegionsBack, regions_of}
 use Rattle.raw_heap.specs.Heap.{IsGot}
 use Rattle.raw_region.specs.Region.{PieceView}
 use Rattle.mem_base.specs.declared.trace.Letter.{Letter}
-use Rattle.debug_guard.specs.Guard.{Guard, guard_extent}
+use Rattle.block_model.specs.Block.{carried, new_byte}
+use Rattle.block_model.proofs.CallerLemmas.{carried-fresh}
+use Rattle.debug_guard.specs.Guard.{Guard, fill_of, guard_extent, piece_of}
 use Rattle.domain_api.specs.declared.answers.Asked.{Asked}
-use Rattle.domain_api.specs.Domains.{IsGivenUp, IsLent}
+use Rattle.domain_api.specs.Domains.{IsGivenUp, IsLent, IsMoved, IsTakenBy, MustMove}
+use Rattle.domain_api.specs.declared.answers.Got.TheVariants as gots
 use Rattle.domain_api.specs.Held.{AllWithin, AreAskedOnce, AreHeld, AreSound, AreTraded, DomainsView, IsLoan}
 
 -- ---- which heap
@@ -242,3 +247,63 @@ all_given_up v n fill b asked old new last lent gone small_before raw_before = e
         | inr back ↦ (ap (λ (h : HeapView). h.loans) (back.heap ∙ raw.heap) ∙ small_before, none_of last.raws (omega (arith, one, ap length raw_before, length_inserted (guard_extent b) last.raws new.raws back.back)))
       ]
 ]
+
+-- ---- a block that gets another size
+
+-- what was a loan is one, once a new block was lent
+pub loan_stays : (v : Letter) (n fill : ℕ) (b : Guard) (asked : Asked) (old new : DomainsView) (e : Extent) → IsLent v n fill b asked old new → IsLoan e old → IsLoan e new
+loan_stays v n fill b asked old new e lent loan = elim lent.lies [
+  | inl small ↦ elim loan [
+    | inl has ↦ inl (has_kept (piece_extent small.piece) e old.heap.loans new.heap.loans small.serves.got.1.lent has)
+    | inr has ↦ inr (subst (λ (l : List Extent). Has e l) (sym small.raws) has)
+  ]
+  | inr raw ↦ elim loan [
+    | inl has ↦ inl (subst (λ (h : HeapView). Has e h.loans) (sym raw.heap) has)
+    | inr has ↦ inr (has_kept (guard_extent b) e old.raws new.raws raw.lent has)
+  ]
+]
+
+-- a new block that got the data of the old one, which was given up then
+pub moves_so : (r : Request) (v : Letter) (n : ℕ) (zeroed : Bool) (was empty is : Guard) (asked : Asked) (old between new : DomainsView) → zeroed ≡ false → MustMove v n was old r
+    → IsTakenBy r v n (fill_of zeroed) old between (gots.Block empty) asked → 16 ≤ length was.body → is ≡ record empty { body = carried was.body empty.body }
+    → IsGivenUp was between new → AreSound between.heap between.raws → (arenas : SourceView ArenaShape) (raws : SourceView ℕ) → AreHeld between arenas raws → IsMoved v n was is asked old new
+moves_so r v n zeroed was empty is asked old between new fresh_data must taken long carries gone sound arenas raws held =
+    let lent = subst (λ (z : Bool). IsLent v n (fill_of z) empty asked old between) fresh_data taken.1 in
+    record {
+      request = r;
+      must = must;
+      fits = taken.0;
+      empty = empty;
+      between = between;
+      lent = lent;
+      sound = sound;
+      held = (arenas, raws, held);
+      carried = carries ∙ (λ i. record empty { body = (ap (carried was.body) lent.body ∙ carried-fresh v n new_byte was.body long) i });
+      gone = gone;
+    }
+
+-- whose block it is, by what the heap says of its place
+module _ (h : HeapView) (rs : List Extent) (d : DomainsView) (is : record { heap = h; raws = rs } ≡ d) (block : Guard) (loan : IsLoan (guard_extent block) d) (some : 1 ≤ (guard_extent block).len)
+    (place : ℕ) (same : place ≡ block.place) (owned : Bool) (owns : (owned ≡ true → tally (covers place) (regions_of h) ≡ 1) × (tally (covers place) (regions_of h) ≡ 1 → owned ≡ true)) where
+  pub lies_in_raw : AreSound h rs → owned ≡ false → Has (guard_extent block) d.raws
+  lies_in_raw sound not_owned =
+      let own : IsLoan (guard_extent block) (record { heap = h; raws = rs }) = subst (λ (x : DomainsView). IsLoan (guard_extent block) x) (sym is) loan in
+      let none : tally (covers block.place) (regions_of h) ≢ 1 = λ one. true≢false (sym (owns.1 (subst (λ (p : ℕ). tally (covers p) (regions_of h) ≡ 1) (sym same) one)) ∙ not_owned) in
+      subst (λ (x : DomainsView). Has (guard_extent block) x.raws) is (is_raw_block (record { heap = h; raws = rs }) (guard_extent block) sound own some none)
+
+  pub lies_in_pool : (arenas : SourceView ArenaShape) (raws : SourceView ℕ) → AreHeld d arenas raws → owned ≡ true → Has (guard_extent block) d.heap.loans
+  lies_in_pool arenas raws held is_owned =
+      let one = subst (λ (p : ℕ). tally (covers p) (regions_of h) ≡ 1) same (owns.0 is_owned) in
+      is_small_block d arenas raws (guard_extent block) held loan some (subst (λ (x : DomainsView). tally (covers block.place) (regions_of x.heap) ≡ 1) is one)
+
+-- whether it fits where it lies, by what the heap says of its piece
+module _ (block : Guard) (p : PieceView) (m : ℕ) (fit : Bool) (same : p ≡ piece_of block)
+    (fits : (fit ≡ true → (m ≤ length p.bytes) × (3 * length p.bytes < 4 * m)) × ((m ≤ length p.bytes) × (3 * length p.bytes < 4 * m) → fit ≡ true)) where
+  len_is : length p.bytes ≡ (guard_extent block).len
+  len_is = ap (λ (q : PieceView). length q.bytes) same
+
+  pub fits_there : fit ≡ true → fits_in_place (guard_extent block).len m ≡ true
+  fits_there fitting = let so = fits.0 fitting in ap (λ s. fits_in_place s m) (sym len_is) ∙ fits_in_place_so (length p.bytes) m so.0 so.1
+
+  pub fits_not_there : fit ≡ false → fits_in_place (guard_extent block).len m ≡ false
+  fits_not_there wide = ap (λ s. fits_in_place s m) (sym len_is) ∙ no_fit (length p.bytes) m (λ so. true≢false (sym (fits.1 so) ∙ wide))

@@ -27,3 +27,16 @@ pub enum Freed {
     Done,
     Fault(Guarded, Fault),
 }
+
+/// What the realloc of a block came to. Null and a fault leave the block as it was.
+pub enum Moved {
+    Block(Guarded),
+    Null(Guarded),
+    Fault(Guarded, Fault),
+}
+
+/// The answer to the realloc of a block.
+pub struct MoveMade {
+    pub got: Moved,
+    pub asked: Asked,
+}

@@ -18,15 +18,14 @@
 //! are two answers: a source that refuses makes the call null, and only a call that was not refused
 //! is an error.
 
-ghost use Rattle.std.specs.Prelude.{◌≡◌, ◌≢◌, ◌+◌, ◌^◌, ◌<◌, ◌≤◌, [], None, IfOk, OnErr};
+ghost use Rattle.std.specs.Prelude.{◌≡◌, ℕ, ◌+◌, ◌*◌, ◌^◌, ◌<◌, ◌≤◌, true, [], None, IfOk, OnErr};
 ghost use Rattle.block_model.specs.Block.{new_byte};
-ghost use Rattle.mem_base.specs.declared.trace.Letter.TheVariants as letters;
 ghost use Rattle.debug_guard.specs.Guard.{fill_of, guard_extent};
 ghost use Rattle.request_model.specs.Counts.{raw_asks, raw_refusals};
-ghost use Rattle.request_model.specs.Decision.{asks, call_fault, decision};
+ghost use Rattle.request_model.specs.Decision.{asks, call_fault, decision, request};
 ghost use Rattle.sources.specs.Holder.{Answered, AskedUnrefused, Traded};
 ghost use Rattle.py_heap.specs.Heap.{empty_heap, regions_of};
-ghost use Rattle.domain_api.specs.Domains.{IsFreed, IsGivenUp, IsMade, IsTaken, IsTakenRaw, view_of_both};
+ghost use Rattle.domain_api.specs.Domains.{IsFreed, IsGivenUp, IsMade, IsTakenBy, IsTakenRaw, request_of, view_of_both};
 ghost use Rattle.domain_api.specs.Held.{AreAnswered, AreAskedNothing, AreAskedOnce, AreHeld, AreSound};
 ghost use Rattle.domain_api.specs.Held.{AreTraded, CanAsk, HasCounts, IsLoan, SamePlans};
 
@@ -43,7 +42,7 @@ use std::marker::Model;
 
 /// The blocks of all three domains. It must be spent by `end`, once no block is left.
 pub struct Domains {
-    heap: Heap,
+    pub(crate) heap: Heap,
     raw: RawHeap,
 }
 
@@ -58,18 +57,29 @@ impl Model for Domains {
 }
 
 /// No source was asked.
-const NOT_ASKED: Asked = Asked {
+pub(crate) const NOT_ASKED: Asked = Asked {
     arena: Grant::NotAsked,
     raw: Ask::NotAsked,
 };
 
-// A new block that may be asked for: its domain, how many bytes of data it has, and whether they are
-// to be 00.
+/// A new block that may be asked for: its domain, how many bytes of data it has, whether they are to be
+/// 00, and whether the pools are asked first.
 #[derive(Clone, Copy)]
-struct Wanted {
-    letter: Letter,
-    n: u64,
-    zero: bool,
+pub(crate) struct Wanted {
+    pub(crate) letter: Letter,
+    pub(crate) n: u64,
+    pub(crate) zero: bool,
+    pub(crate) pooled: bool,
+}
+
+/// Whether the blocks of a domain may lie in pools.
+pub(crate) fn uses_pools(letter: Letter) -> bool
+    ensures { (n : ℕ) → request_of result n ≡ request letter n }
+{
+    match letter {
+        Letter::Raw => false,
+        Letter::Mem | Letter::Obj => true,
+    }
 }
 
 impl Domains {
@@ -147,12 +157,11 @@ impl Domains {
         arenas: &mut A,
         raws: &mut R,
     ) -> Result<Made, AllocError>
-        requires pooled { wanted.letter ≢ letters.Raw }
         requires fits { wanted.n + 24 < 2 ^ 63 }
         requires ask { CanAsk self.old (A.seen arenas.old) (R.seen raws.old) }
         requires held { AreHeld self.old (A.seen arenas.old) (R.seen raws.old) }
-        ensures taken { IfOk result (λ made.
-            IsTaken wanted.letter wanted.n (fill_of wanted.zero) self.old self.new made.got made.asked) }
+        ensures taken { IfOk result (λ made. IsTakenBy (request_of true wanted.n)
+            wanted.letter wanted.n (fill_of wanted.zero) self.old self.new made.got made.asked) }
         ensures failed { OnErr result (self.new ≡ self.old) }
         ensures answered { IfOk result (λ made. AreAnswered made.asked
             (A.seen arenas.old) (A.seen arenas.new) (R.seen raws.old) (R.seen raws.new)) }
@@ -175,6 +184,84 @@ impl Domains {
                 },
             }),
             None => self.take_raw(wanted, grant, arenas, raws),
+        }
+    }
+
+    /// A new block, which may be asked for.
+    pub(crate) fn take<A: ArenaSource, R: RawSource>(
+        &mut self,
+        wanted: Wanted,
+        arenas: &mut A,
+        raws: &mut R,
+    ) -> Result<Made, AllocError>
+        requires fits { wanted.n + 24 < 2 ^ 63 }
+        requires ask { CanAsk self.old (A.seen arenas.old) (R.seen raws.old) }
+        requires held { AreHeld self.old (A.seen arenas.old) (R.seen raws.old) }
+        ensures taken { IfOk result (λ made. IsTakenBy (request_of wanted.pooled wanted.n)
+            wanted.letter wanted.n (fill_of wanted.zero) self.old self.new made.got made.asked) }
+        ensures failed { OnErr result (self.new ≡ self.old) }
+        ensures answered { IfOk result (λ made. AreAnswered made.asked
+            (A.seen arenas.old) (A.seen arenas.new) (R.seen raws.old) (R.seen raws.new)) }
+        ensures plans { SamePlans
+            (A.seen arenas.old) (A.seen arenas.new) (R.seen raws.old) (R.seen raws.new) }
+        ensures once { OnErr result (AreAskedOnce
+            (A.seen arenas.old) (A.seen arenas.new) (R.seen raws.old) (R.seen raws.new)) }
+        ensures traded { AreTraded self.old self.new
+            (A.seen arenas.old) (A.seen arenas.new) (R.seen raws.old) (R.seen raws.new) }
+        ensures held { AreHeld self.new (A.seen arenas.new) (R.seen raws.new) }
+        ensures sound { AreSound self.new.heap self.new.raws }
+    {
+        if wanted.pooled {
+            self.take_pooled(wanted, arenas, raws)
+        } else {
+            self.take_raw(wanted, Grant::NotAsked, arenas, raws)
+        }
+    }
+
+    // The new block, where what the call comes to lets it ask for one.
+    fn make<A: ArenaSource, R: RawSource>(
+        &mut self,
+        wanted: Wanted,
+        locked: bool,
+        arenas: &mut A,
+        raws: &mut R,
+    ) -> Result<Made, AllocError>
+        requires ask { CanAsk self.old (A.seen arenas.old) (R.seen raws.old) }
+        requires held { AreHeld self.old (A.seen arenas.old) (R.seen raws.old) }
+        requires asks { request_of wanted.pooled wanted.n ≡ request wanted.letter wanted.n }
+
+        // What block there is.
+        ensures made { IfOk result (λ made.
+            IsMade wanted.letter wanted.n (fill_of wanted.zero) locked self.old self.new made.got made.asked) }
+        ensures failed { OnErr result (self.new ≡ self.old) }
+        ensures came_to_ask { OnErr result (decision wanted.letter wanted.n locked None ≡ asks) }
+
+        // What the sources were asked.
+        ensures answered { IfOk result (λ made. AreAnswered made.asked
+            (A.seen arenas.old) (A.seen arenas.new) (R.seen raws.old) (R.seen raws.new)) }
+        ensures plans { SamePlans
+            (A.seen arenas.old) (A.seen arenas.new) (R.seen raws.old) (R.seen raws.new) }
+        ensures once { OnErr result (AreAskedOnce
+            (A.seen arenas.old) (A.seen arenas.new) (R.seen raws.old) (R.seen raws.new)) }
+
+        // What the domains hold.
+        ensures traded { AreTraded self.old self.new
+            (A.seen arenas.old) (A.seen arenas.new) (R.seen raws.old) (R.seen raws.new) }
+        ensures held { AreHeld self.new (A.seen arenas.new) (R.seen raws.new) }
+        ensures sound { AreSound self.new.heap self.new.raws }
+    {
+        // A read of a field tells what always holds of both heaps, which each answer says again.
+        let _inside = &self.heap;
+        match decide(wanted.letter, wanted.n, locked, None) {
+            Decision::TooGreat => Ok(Made {
+                got: Got::Null,
+                asked: NOT_ASKED,
+            }),
+            Decision::Faults(found) => Ok(Made {
+                got: Got::Fault(found),
+                asked: NOT_ASKED,
+            }),
+            Decision::Asks => self.take(wanted, arenas, raws),
         }
     }
 
@@ -215,26 +302,64 @@ impl Domains {
         ensures held { AreHeld self.new (A.seen arenas.new) (R.seen raws.new) }
         ensures sound { AreSound self.new.heap self.new.raws }
     {
-        // A read of a field tells what always holds of both heaps, which each answer says again.
-        let _inside = &self.heap;
         let wanted = Wanted {
             letter,
             n,
             zero: false,
+            pooled: uses_pools(letter),
         };
-        match decide(letter, n, locked, None) {
-            Decision::TooGreat => Ok(Made {
+        self.make(wanted, locked, arenas, raws)
+    }
+
+    /// A block for so many elements of `elsize` bytes each, whose bytes of data are 00. It is null where
+    /// their product is too great as a size, however great it is. All else is as in `malloc`.
+    pub fn calloc<A: ArenaSource, R: RawSource>(
+        &mut self,
+        letter: Letter,
+        nelem: u64,
+        elsize: u64,
+        locked: bool,
+        arenas: &mut A,
+        raws: &mut R,
+    ) -> Result<Made, AllocError>
+        requires ask { CanAsk self.old (A.seen arenas.old) (R.seen raws.old) }
+        requires held { AreHeld self.old (A.seen arenas.old) (R.seen raws.old) }
+
+        // What block there is.
+        ensures made { IfOk result (λ made.
+            IsMade letter (nelem * elsize) 0 locked self.old self.new made.got made.asked) }
+        ensures failed { OnErr result (self.new ≡ self.old) }
+        ensures came_to_ask { OnErr result (decision letter (nelem * elsize) locked None ≡ asks) }
+
+        // What the sources were asked.
+        ensures answered { IfOk result (λ made. AreAnswered made.asked
+            (A.seen arenas.old) (A.seen arenas.new) (R.seen raws.old) (R.seen raws.new)) }
+        ensures plans { SamePlans
+            (A.seen arenas.old) (A.seen arenas.new) (R.seen raws.old) (R.seen raws.new) }
+        ensures once { OnErr result (AreAskedOnce
+            (A.seen arenas.old) (A.seen arenas.new) (R.seen raws.old) (R.seen raws.new)) }
+
+        // What the domains hold.
+        ensures traded { AreTraded self.old self.new
+            (A.seen arenas.old) (A.seen arenas.new) (R.seen raws.old) (R.seen raws.new) }
+        ensures held { AreHeld self.new (A.seen arenas.new) (R.seen raws.new) }
+        ensures sound { AreSound self.new.heap self.new.raws }
+    {
+        let _inside = &self.heap;
+        match nelem.checked_mul(elsize) {
+            Some(n) => {
+                let wanted = Wanted {
+                    letter,
+                    n,
+                    zero: true,
+                    pooled: uses_pools(letter),
+                };
+                self.make(wanted, locked, arenas, raws)
+            }
+            None => Ok(Made {
                 got: Got::Null,
                 asked: NOT_ASKED,
             }),
-            Decision::Faults(found) => Ok(Made {
-                got: Got::Fault(found),
-                asked: NOT_ASKED,
-            }),
-            Decision::Asks => match letter {
-                Letter::Raw => self.take_raw(wanted, Grant::NotAsked, arenas, raws),
-                Letter::Mem | Letter::Obj => self.take_pooled(wanted, arenas, raws),
-            },
         }
     }
 

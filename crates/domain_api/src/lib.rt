@@ -4,8 +4,9 @@
 mod answers;
 mod decide;
 mod domains;
+mod realloc;
 
-pub use answers::{Asked, Freed, Got, Made};
+pub use answers::{Asked, Freed, Got, Made, MoveMade, Moved};
 pub use domains::Domains;
 
 #[cfg(test)]

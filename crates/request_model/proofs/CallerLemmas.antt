@@ -1,7 +1,7 @@
 -- What proofs of other crates may cite: what a decision says of its size and its faults, and what one more entry adds.
-use Rattle.std.proofs.Common.{◌≡◌, ℕ, ◌+◌, ◌<◌, ◌≤◌, Bool, true, false, cond, List, [], ◌∷◌, ◌++◌, length, Option, Some, None, refl, arith}
-use Rattle.std.specs.Prelude.{nat_lt}
-use Rattle.std.proofs.lemmas.Bool.{ltb-true, ltb-false}
+use Rattle.std.proofs.Common.{◌≡◌, ℕ, ◌+◌, ◌*◌, ◌<◌, ◌≤◌, Bool, true, false, true≢false, cond, List, [], ◌∷◌, ◌++◌, length, Option, Some, None, refl, sym, arith}
+use Rattle.std.specs.Prelude.{◌&&◌, nat_le, nat_lt}
+use Rattle.std.proofs.lemmas.Bool.{le-leb, leb-true, lt-ltb, ltb-true, ltb-false}
 use Rattle.mem_base.specs.declared.history.Ask.{Ask}
 use Rattle.mem_base.specs.declared.history.Ask.TheVariants as ask
 use Rattle.mem_base.specs.declared.history.Entry.{Entry}
@@ -12,7 +12,7 @@ use Rattle.mem_base.specs.declared.trace.Letter.{Letter}
 use Rattle.mem_base.specs.declared.trace.Side.{Side}
 use Rattle.mem_base.specs.declared.trace.Side.TheVariants as sides
 use Rattle.request_model.specs.Counts.{arena_asks, arena_refusals, asked_in, asks_in, raw_asks, raw_refusals, refused_in, refusals_in}
-use Rattle.request_model.specs.Decision.{max_size, max_data, call_fault, Decision, too_great, faults, asks, decision, unless_fault}
+use Rattle.request_model.specs.Decision.{max_size, max_data, call_fault, Decision, too_great, faults, asks, decision, fits_in_place, unless_fault}
 
 -- ---- decisions
 
@@ -33,6 +33,27 @@ decides v n locked found = by (nat_lt max_size n) (call_fault v locked found) (n
     by false (Some f) b g h = faulty f (ltb-false max_size n g) refl
     by false None true g h = over_data (ltb-true max_data n h) refl
     by false None false g h = within (ltb-false max_data n h) refl
+
+-- ---- a block that gets another size
+
+pub fits_in_place_is : (s m : ℕ) → fits_in_place s m ≡ true → (m ≤ s) × (3 * s < 4 * m)
+fits_in_place_is s m is = by (nat_le m s) (nat_lt (3 * s) (4 * m)) refl refl is
+  where
+    by : (a b : Bool) → nat_le m s ≡ a → nat_lt (3 * s) (4 * m) ≡ b → (a && b) ≡ true → (m ≤ s) × (3 * s < 4 * m)
+    by true true f g is = (leb-true m s f, ltb-true (3 * s) (4 * m) g)
+    by true false f g is = absurd (true≢false (sym is))
+    by false b f g is = absurd (true≢false (sym is))
+
+pub fits_in_place_so : (s m : ℕ) → m ≤ s → 3 * s < 4 * m → fits_in_place s m ≡ true
+fits_in_place_so s m fits most = λ i. le-leb m s fits i && lt-ltb (3 * s) (4 * m) most i
+
+-- a test that does not hold, by what holds where it does
+pub no_fit : (s m : ℕ) → ((m ≤ s) × (3 * s < 4 * m) → ⊥) → fits_in_place s m ≡ false
+no_fit s m not_so = by (fits_in_place s m) refl
+  where
+    by : (b : Bool) → fits_in_place s m ≡ b → b ≡ false
+    by true is = absurd (not_so (fits_in_place_is s m is))
+    by false is = refl
 
 -- ---- counts
 

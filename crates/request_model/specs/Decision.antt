@@ -1,5 +1,5 @@
 -- What a call that asks for a block, or gives one up, comes to before any source is asked.
-use Rattle.std.specs.Prelude.{ℕ, ◌-◌, Bool, true, false, not, ◌&&◌, nat_lt, if◌then◌else◌, Option, Some, None}
+use Rattle.std.specs.Prelude.{ℕ, ◌-◌, ◌*◌, Bool, true, false, not, ◌&&◌, nat_le, nat_lt, if◌then◌else◌, Option, Some, None}
 use Rattle.mem_base.specs.declared.limits.TheConstants.{HOOK_BYTES, MAX_SIZE}
 use Rattle.mem_base.specs.declared.reply.Fault.{Fault}
 use Rattle.mem_base.specs.declared.reply.Fault.TheVariants.{Unlocked}
@@ -69,3 +69,15 @@ abbrev pub request_after : Letter → ℕ → Decision → Request
 request_after v n too_great = NoRequest
 request_after v n (faults found) = NoRequest
 request_after v n asks = request v n
+
+-- ---- a block that gets another size
+
+-- a block of a pool whose blocks have s bytes may stay where it is for m bytes: they fit, and are more than three
+-- quarters of it
+abbrev pub fits_in_place : ℕ → ℕ → Bool
+fits_in_place s m = nat_le m s && nat_lt (3 * s) (4 * m)
+
+-- what a block that has to move to have n bytes of data asks for: one of a pool what a new block does, one of a raw
+-- region a raw region again
+abbrev pub move_request : Bool → Letter → ℕ → Request
+move_request pooled v n = if pooled then request v n else FromRaw (need n)

@@ -12,17 +12,27 @@
 //! | n leaves no room for the 24 bytes of the hooks | is null |
 //! | none of these | may ask the sources |
 //!
-//! In `Objects/obmalloc.c` these are `PyMem_Malloc` and its kin (the greatest size), and
+//! A realloc that may ask leaves a block of a pool where it is if its bytes fit there and are more than
+//! three quarters of the block. Any other block moves: one of a pool asks as a new block does, one of a
+//! raw region asks for a raw region again (`pymalloc_realloc` and `_PyObject_Realloc`).
+//!
+//! In `Objects/obmalloc.c` the first three rows are `PyMem_Malloc` and its kin (the greatest size), and
 //! `_PyMem_DebugCheckGIL`, `_PyMem_DebugCheckAddress` and `_PyMem_DebugRawAlloc` of the debug hooks.
 #![tactic(auto)]
 
-ghost use Rattle.request_model.specs.Laws.{TooGreatExactly, FaultsExactly, AsksExactly, OneMoreCounts, FewAreAsked};
+ghost use Rattle.request_model.specs.Laws.{TooGreatExactly, FaultsExactly, AsksExactly, FitsInPlaceExactly, ThreeQuartersMove, OneMoreCounts, FewAreAsked};
 
 /// When a size is too great, when a call comes to its fault, and when a source may be asked.
 pub fn sizes_and_faults_decide()
     ensures too_great { TooGreatExactly }
     ensures faults { FaultsExactly }
     ensures asks { AsksExactly }
+{}
+
+/// Where a block of a pool may stay for a realloc.
+pub fn more_than_three_quarters_stay()
+    ensures exactly { FitsInPlaceExactly }
+    ensures edge { ThreeQuartersMove }
 {}
 
 /// What one more entry adds to the requests of a history.

@@ -1,4 +1,4 @@
-use Rattle.block_model.proofs.BodyLemmas.{size-resized}
+use Rattle.block_model.proofs.CallerLemmas.{size-resized}
 use Rattle.block_model.proofs.resizing_gives_the_size.Goals as goal
 
 pub returns : goal.returns
