@@ -2,7 +2,8 @@
 # Prints how long replays of traces of four sizes take, the ratio of each to the one before, and the most memory that
 # each held. A trace is mixed: in waves of 32,768 operations blocks of 0 to 700 bytes of all three domains are allocated
 # and then freed in another order, so that pools and arenas fill and empty; every 512th operation shows the heap, and
-# as often a request of one of the sources is refused.
+# as often a request of one of the sources is refused. Then come traces of a live heap that grows to 15, 30 and 60 arenas
+# and to 25, 50 and 100 MiB of raw blocks, and empties in a random order.
 # Usage: bench/replay.sh (the program is proved and built first where it is not)
 set -eu
 cd "$(dirname "$0")/.."
@@ -25,6 +26,27 @@ trace() {
     }'
 }
 
+# A trace in which so many arenas fill with blocks of 488 bytes, 1,984 to an arena, and raw blocks of 64 KiB come, 80 to
+# three arenas, and all are freed in a random order.
+growing() {
+    awk -v arenas="$1" 'BEGIN {
+        small = arenas * 1984
+        all = small + int(arenas * 80 / 3)
+        print "pymtrace 1"; print "track t"; print "acquire"
+        for (i = 0; i < all; i++) {
+            order[i] = i
+            print i < small ? "malloc o b" i " 488" : "malloc r b" i " 65536"
+        }
+        seed = 1
+        for (i = all - 1; i >= 0; i--) {
+            seed = (seed * 1103515245 + 12345) % 2147483648
+            k = int(seed / 2147483648 * (i + 1))
+            at = order[k]; order[k] = order[i]
+            print "free " (at < small ? "o" : "r") " b" at
+        }
+    }'
+}
+
 # Runs the replay of a trace, and prints its time in microseconds and the most memory that it held in KiB.
 timed() {
     python3 - "$1" "$2" <<'PYTHON'
@@ -39,17 +61,30 @@ PYTHON
 }
 
 ./pymtrace replay < examples/first.trace > "$work/out"
+
+# Prints what the best of three runs took of the trace with so many operations, and its ratio to the one before.
 before=""
-for n in 32768 65536 131072 262144; do
-    trace "$n" > "$work/trace"
+measure() {
     best=""
     for _ in 1 2 3; do
         read -r took memory < <(timed "$work/trace" "$work/out")
         if [ -z "$best" ] || [ "$took" -lt "$best" ]; then best=$took; fi
     done
-    tail -n 5 "$work/out" | head -n 1 | grep -q "^summary events $n status 0$"
+    tail -n 5 "$work/out" | head -n 1 | grep -q "^summary events $1 status 0$"
     ratio=""
     if [ -n "$before" ]; then ratio=$(awk -v a="$best" -v b="$before" 'BEGIN { printf ", ratio %.2f", a / b }'); fi
-    echo "$n operations, $(stat -c %s "$work/trace") bytes: $((best / 1000)).$(printf %03d $((best % 1000))) ms$ratio; $memory KiB at most"
+    echo "$1 operations, $(stat -c %s "$work/trace") bytes: $((best / 1000)).$(printf %03d $((best % 1000))) ms$ratio; $memory KiB at most"
     before=$best
+}
+
+for n in 32768 65536 131072 262144; do
+    trace "$n" > "$work/trace"
+    measure "$n"
+done
+
+before=""
+for arenas in 15 30 60; do
+    growing "$arenas" > "$work/trace"
+    measure "$((1 + 2 * (arenas * 1984 + arenas * 80 / 3)))"
+    grep -q "^summary arenas given $arenas back $((arenas - 1)) most $arenas$" "$work/out"
 done

@@ -1,6 +1,6 @@
 -- Blocks of two heaps: which of them a block is of, and what stays of what is held.
 use Rattle.std.proofs.Common.{true≢false, ◌≡◌, ◌≢◌, ℕ, zero, suc, ◌+◌, ◌*◌, ◌<◌, ◌≤◌, Bool, true, false, List, [], ◌∷◌, length, Option, Some, None, Result, Ok, Err, OnErr, refl, sym, ap, subst, ◌∙◌, arith, inl, inr, ◌⊎◌}
-use Rattle.std.specs.Prelude.{◌&&◌, ◌||◌, not, nat_le}
+use Rattle.std.specs.Prelude.{◌&&◌, ◌||◌, IsNone, not, nat_le}
 use Rattle.std.proofs.lemmas.Bool.{le-leb, leb-true}
 use Rattle.mem_base.specs.declared.history.Ask.{Ask}
 use Rattle.mem_base.specs.declared.history.Ask.TheVariants as ask
@@ -209,6 +209,11 @@ regions_left p old new w back all = elim back [
 ]
 
 -- ---- whose a block is
+
+-- what is there is not none
+pub not_none : {X : Type 0} (o : Option X) (x : X) → o ≡ Some x → IsNone o → ⊥
+not_none None x is none = cc
+not_none (Some y) x is none = cc
 
 pub is_small_block : (d : DomainsView) (arenas : SourceView ArenaShape) (raws : SourceView ℕ) (e : Extent) → AreHeld d arenas raws → IsLoan e d → 1 ≤ e.len → tally (covers e.place) (regions_of d.heap) ≡ 1 → Has e d.heap.loans
 is_small_block d arenas raws e held loan some owned = elim loan [ inl small ↦ small | inr raw ↦ absurd (omega (arith, owned, owns_no_raw d arenas raws e held raw some)) ]

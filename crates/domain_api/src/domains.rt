@@ -421,10 +421,9 @@ impl Domains {
         // A block has bytes, so its first one tells whose it is.
         let _size = size(&g);
         let piece = kill(g);
-        if self.heap.owns(piece.place()) {
-            self.heap.free(piece, arenas);
-        } else {
-            self.raw.free(piece, raws);
+        match self.heap.give(piece, arenas) {
+            None => {}
+            Some(back) => self.raw.free(back, raws),
         }
     }
 

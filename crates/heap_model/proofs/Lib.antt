@@ -1,3 +1,4 @@
+pub mod CallerLemmas
 pub mod Picks
 pub mod Pools
 pub mod Orderly
@@ -12,3 +13,4 @@ pub mod Ground
 pub mod Members
 pub mod Steps
 pub mod Counts
+pub mod Layouts

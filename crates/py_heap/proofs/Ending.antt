@@ -5,7 +5,8 @@ use Rattle.std.proofs.lemmas.List.{get_or-map}
 use Rattle.raw_region.specs.Cells.{AllHome}
 use Rattle.raw_region.specs.Region.{RegionView}
 use Rattle.extents.specs.Sums.{tally, Has, Removed}
-use Rattle.extents.specs.Extent.{Extent, covers, region_extent}
+use Rattle.extents.specs.Extent.{Extent, MeetsNone, covers, region_extent}
+use Rattle.extents.proofs.Addresses.{covers_in}
 use Rattle.extents.proofs.Lists.{tally_has, length_inserted, has-map, has_new}
 use Rattle.links.specs.Nodes.{times}
 use Rattle.sources.specs.Source.{SourceView, ArenaShape}
@@ -22,9 +23,10 @@ use Rattle.arena_set.proofs.CallerLemmas.{inside, flat_empty}
 use Rattle.heap_model.proofs.Pools.{tally_some}
 use Rattle.heap_model.proofs.Empty.{empty_tables_are_kept}
 use Rattle.py_heap.specs.Heap.{empty_heap}
-use Rattle.py_heap.specs.Kept.{ClassView, State, no_pools, lines_of, tables_of, heap_of, IsKeptState}
-use Rattle.py_heap.specs.Marks.{NoneHas}
-use Rattle.py_heap.proofs.Arenas.{line_there, arena_at, sites_cover, flat_has}
+use Rattle.py_heap.specs.Kept.{ClassView, State, no_pools, lines_of, sites_of, tables_of, heap_of, IsKeptState}
+use Rattle.radix_map.specs.Map.{HasNone as NoArenaHas, IsFree}
+use Rattle.py_heap.proofs.Arenas.{IsSite, line_there, arena_at, site_at, sites_cover, flat_has}
+use Rattle.py_heap.proofs.Freeing.{has_same}
 use Rattle.py_heap.proofs.Returning.{in_arena_is}
 
 -- ---- where no block is in use
@@ -110,21 +112,30 @@ no_regions v none = flat_empty (λ n a. region_extent a.region ∷ []) 1 v.arena
 -- ---- what a heap owns
 
 module _ (s : State) (k : IsKeptState s) (place : ℕ) where
-  pub owned : (m : Site) → Has m s.marks.sites → ArenaHas place m → tally (covers place) (regions_of s.set.arenas) ≡ 1
+  pub owned : (m : Site) → Has m s.marks → ArenaHas place m → tally (covers place) (regions_of s.set.arenas) ≡ 1
   owned m there has =
-      let one = in_arena_is place m has in let le = tally_has (in_arena place) m s.marks.sites there in
+      let one = in_arena_is place m has in let le = tally_has (in_arena place) m s.marks there in
       let same = k.marked (in_arena place) in let c = sites_cover s.set place k.sound_set in let most = k.sound_set.apart place in omega arith
 
-  pub not_owned : NoneHas place s.marks.sites → tally (covers place) (regions_of s.set.arenas) ≡ 1 → ⊥
+  pub not_owned : NoArenaHas place s.marks → tally (covers place) (regions_of s.set.arenas) ≡ 1 → ⊥
   not_owned none one =
       let same = k.marked (in_arena place) in let c = sites_cover s.set place k.sound_set in
-      let z = tally_some (in_arena place) s.marks.sites (omega arith) in
+      let z = tally_some (in_arena place) s.marks (omega arith) in
       none z.0 z.1.0 (arena_has place z.0 z.1.1) where
         arena_has : (p : ℕ) (a : Site) → 1 ≤ in_arena p a → ArenaHas p a
         arena_has p a = elim (leb_tells a.base p) as (λ _. 1 ≤ cond (leb a.base p) (cond (leb (a.base + 1048576) p) 0 1) 0 → ArenaHas p a) [
           | inl v ↦ rw v.0 (elim (leb_tells (a.base + 1048576) p) as (λ _. 1 ≤ cond (leb (a.base + 1048576) p) 0 1 → ArenaHas p a) [ inl w ↦ rw w.0 (λ le. absurd (omega arith)) | inr w ↦ λ le. (v.1, w.1) ])
           | inr v ↦ rw v.0 (λ le. absurd (omega arith))
         ]
+
+-- a region that meets no region of the heap is not marked
+pub free_marks : (s : State) (k : IsKeptState s) (r : RegionView) → length r.cells ≡ 1048576 → MeetsNone (region_extent r) (regions_of s.set.arenas) → IsFree r.base s.marks
+free_marks s k r long apart address has m there mine =
+    let one = owned s k address m there mine in let zero = apart address (covers_in address (region_extent r) has.0 (let high = has.1 in omega arith)) in absurd (omega arith)
+
+-- an arena that is marked is in the set
+pub marked_site : (s : State) (k : IsKeptState s) (m : Site) → Has m s.marks → IsSite s.set m
+marked_site s k m there = site_at s.set m (has_same m s.marks (sites_of s.set.arenas) k.marked there)
 
 -- ---- a new heap
 
@@ -133,10 +144,10 @@ same_room zero c = refl
 same_room (suc n) zero = refl
 same_room (suc n) (suc c) = same_room n c
 
-pub new_heap : (s : State) (set_is : s.set ≡ empty_set) (classes : s.classes ≡ replicate 32 no_pools) (marks : s.marks ≡ record { sites = []; room = 0 }) → (s.taken ≡ 0) × (s.given ≡ 0) × (s.back ≡ 0) × (s.most ≡ 0) × (s.pooled ≡ 0) →
+pub new_heap : (s : State) (set_is : s.set ≡ empty_set) (classes : s.classes ≡ replicate 32 no_pools) (marks : s.marks ≡ []) → (s.taken ≡ 0) × (s.given ≡ 0) × (s.back ≡ 0) × (s.most ≡ 0) × (s.pooled ≡ 0) →
     IsKeptState s × (heap_of s ≡ empty_heap)
 new_heap s set_is classes marks counts =
-    let start : State = record { set = empty_set; classes = replicate 32 no_pools; marks = record { sites = []; room = 0 }; taken = 0; given = 0; back = 0; most = 0; pooled = 0 } in
+    let start : State = record { set = empty_set; classes = replicate 32 no_pools; marks = []; taken = 0; given = 0; back = 0; most = 0; pooled = 0 } in
     let same : start ≡ s = sym (λ i. record { set = set_is i; classes = classes i; marks = marks i; taken = counts.0 i; given = counts.1 i; back = counts.2 i; most = counts.3 i; pooled = counts.4 i }) in
     let kept : IsKeptState start = record {
       kept = empty_tables_are_kept;

@@ -28,7 +28,6 @@ use Rattle.arena_set.specs.Calls.{IsStarted, CanMend, Mends, GivesPool}
 use Rattle.arena_set.proofs.CallerLemmas.{inside, PieceOf, piece_of}
 use Rattle.py_heap.specs.Heap.{InPool}
 use Rattle.py_heap.specs.Kept.{ClassView, State, no_pools, spot, spots_of, lines_of, sites_of, tables_of, heap_of, class_at, full_in, SameSums, IsKeptState}
-use Rattle.py_heap.specs.Marks.{NoneHas}
 use Rattle.py_heap.specs.Frees.{IsInPool, TakesBack}
 use Rattle.py_heap.proofs.Search.{get_or_any}
 use Rattle.py_heap.proofs.Arenas.{line_at, line_there, started_there, started_once, arena_at, loan_there, site_there, pool_ground, sites_cover, sites_same}
@@ -112,27 +111,10 @@ module _ (s : State) (k : IsKeptState s) (piece : PieceView) (loan : Has (piece_
   pool_has : PoolHas x.place piece.place
   pool_has = let i = (the_block).inside in let one = (the_block).some in (omega arith, omega arith)
 
-  abbrev home : Site
-  home = record { arena = (the_block).id.arena; base = (the_block).a.region.base }
-
-  home_marked : Has home s.marks.sites
-  home_marked = has_same home (sites_of s.set.arenas) s.marks.sites (λ f. sym (k.marked f)) (site_there s.set (the_block).id.arena (the_block).a (the_block).started.at)
-
-  home_has : ArenaHas piece.place home
-  home_has =
-      let b = the_block in
-      let g = pool_ground s.set b.id b.a k.sound_set b.started.at (pool_inside s.set b.id b.a b.s b.started) in
-      let long = (arena_at s.set b.id.arena b.a k.sound_set b.started.at).region.len in let low = g.inside in let has = pool_has in
-      (omega arith, omega arith)
-
-  -- some arena has the address
-  pub is_marked : NoneHas piece.place s.marks.sites → ⊥
-  is_marked none = none home home_marked home_has
-
-  -- and it is the pool's
-  module _ (m : Site) (there : Has m s.marks.sites) (has : ArenaHas piece.place m) where
+  -- the arena that has the address is the pool's
+  module _ (m : Site) (there : Has m s.marks) (has : ArenaHas piece.place m) where
     found : StandsIn m x × (x.slot ≡ slot_at m.base piece.place)
-    found = address_finds_pool (sites_of s.set.arenas) (tables_of s) x m piece.place (standing s k) here pool_has (has_same m s.marks.sites (sites_of s.set.arenas) k.marked there) has
+    found = address_finds_pool (sites_of s.set.arenas) (tables_of s) x m piece.place (standing s k) here pool_has (has_same m s.marks (sites_of s.set.arenas) k.marked there) has
 
     pub in_pool : IsInPool m.base piece.place
     in_pool = let f = (found).0 in let h = pool_has in let few = (some_pools m.base).1 in let low = f.slot in record { slot = x.slot; few = omega arith; low = subst (λ n. n ≤ piece.place) f.place h.0; high = subst (λ n. piece.place < n + 16384) f.place h.1 }
@@ -258,7 +240,7 @@ module _ (old : State) (k : IsKeptState old) (piece : PieceView) (loan : Has (pi
       few = let e = given_is in let f = k.few in omega arith;
       out = let e = given_is in let b = back_is in let r = ap length regions_are in let o = k.out in omega arith;
       lent = pooled_less new.pooled pooled_is ∙ ap (λ v. length (loans_of v.arenas)) (sym set_is);
-      marked = λ f. let m = k.marked f in ap (λ q. tally f q.sites) marks_are ∙ m ∙ ap (tally f) (sym (back).sites) ∙ ap (λ v. tally f (sites_of v.arenas)) (sym set_is);
+      marked = λ f. let m = k.marked f in ap (tally f) marks_are ∙ m ∙ ap (tally f) (sym (back).sites) ∙ ap (λ v. tally f (sites_of v.arenas)) (sym set_is);
       full = λ d. let t = tally_replaced (full_in d) pool (with_one_less pool) (lines_of old.set.arenas) (lines_of set1.arenas) (back).lines in let o = k.full d in let n = full_is d in
           let e = ap (λ v. tally (full_in d) (lines_of v.arenas)) set_is in omega arith;
     }

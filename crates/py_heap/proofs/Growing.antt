@@ -6,7 +6,7 @@ use Rattle.mem_base.specs.declared.history.Grant.TheVariants.{NotAsked, Granted}
 use Rattle.raw_region.specs.Region.{RegionView, PieceView}
 use Rattle.extents.specs.Sums.{tally, Inserted}
 use Rattle.extents.specs.Extent.{region_extent, piece_extent, AreApart}
-use Rattle.extents.proofs.Lists.{tally-append, length_inserted}
+use Rattle.extents.proofs.Lists.{tally-append, tally_inserted, length_inserted}
 use Rattle.layout_model.specs.Layout.{Layout}
 use Rattle.layout_model.specs.Place.{Placed, place, place_by, pools_of_class, granted, new_arena}
 use Rattle.layout_model.specs.Asks.{is_empty, class_asks}
@@ -22,7 +22,7 @@ use Rattle.layout_model.specs.Geometry.{total_at, Site}
 use Rattle.arena_set.specs.Arena.{IsArena, new_arena as first_arena}
 use Rattle.arena_set.specs.Rule.{CameAlone}
 use Rattle.py_heap.specs.Heap.{BeginsIfThere, Serves}
-use Rattle.py_heap.specs.Kept.{ClassView, MarksView, State, no_pools, spots_of, lines_of, sites_of, tables_of, heap_of, class_at, full_in, IsKeptState}
+use Rattle.py_heap.specs.Kept.{ClassView, State, no_pools, spots_of, lines_of, sites_of, tables_of, heap_of, region_in, class_at, full_in, IsKeptState}
 use Rattle.py_heap.specs.Steps.{OnlyRoom, Comes}
 use Rattle.py_heap.proofs.Arenas.{sites_more}
 use Rattle.py_heap.proofs.Lending.{lists_at}
@@ -51,7 +51,7 @@ module _ (old new : State) (r : OnlyRoom old new) where
   }
 
   pub room_heap : heap_of new ≡ heap_of old
-  room_heap i = record { layout = layout_of (same_tables i); places = places_of (same_tables i); loans = loans_of (r.arenas i); regions = regions_of (r.arenas i) }
+  room_heap i = record { layout = layout_of (same_tables i); places = places_of (same_tables i); loans = loans_of (r.arenas i); regions = regions_of (r.arenas i); arenas = map region_in (r.arenas i) }
 
   pub room_kept : IsKeptState old → IsKeptState new
   room_kept k = record {
@@ -62,7 +62,7 @@ module _ (old new : State) (r : OnlyRoom old new) where
     few = let e = r.given in let f = k.few in omega arith;
     out = let g = r.given in let b = r.back in let o = k.out in let e = ap (λ es. length (regions_of es)) r.arenas in omega arith;
     lent = r.pooled ∙ k.lent ∙ ap (λ es. length (loans_of es)) (sym r.arenas);
-    marked = λ f. ap (tally f) r.sites ∙ k.marked f ∙ ap (λ es. tally f (sites_of es)) (sym r.arenas);
+    marked = λ f. ap (tally f) r.marks ∙ k.marked f ∙ ap (λ es. tally f (sites_of es)) (sym r.arenas);
     full = λ c. r.full c ∙ k.full c ∙ ap (λ es. tally (full_in c) (lines_of es)) (sym r.arenas);
   }
 
@@ -80,7 +80,7 @@ class_room s c v lt spots fulls = record {
     | inl w ↦ ap (λ (z : ClassView). z.full) (ap (λ j. get_or (set s.classes c v) j no_pools) w.1 ∙ get_or-set_same s.classes c v no_pools lt) ∙ fulls ∙ ap (λ j. (class_at s j).full) (sym w.1)
     | inr w ↦ ap (λ (z : ClassView). z.full) (get_or-set_other s.classes c d v no_pools w.1)
   ];
-  sites = refl;
+  marks = refl;
   taken = refl;
   given = refl;
   back = refl;
@@ -94,10 +94,10 @@ class_room s c v lt spots fulls = record {
 
 -- ---- an arena
 
-module _ (old : State) (k : IsKeptState old) (r : RegionView) (set1 : SetView) (m : MarksView) (none : usable_of old.set ≡ []) (few : old.given + 1 < 2 ^ 32) (n base top total : ℕ) (number : n ≡ length old.set.arenas + 1)
+module _ (old : State) (k : IsKeptState old) (r : RegionView) (set1 : SetView) (m : List Site) (none : usable_of old.set ≡ []) (few : old.given + 1 < 2 ^ 32) (n base top total : ℕ) (number : n ≡ length old.set.arenas + 1)
     (base_is : base ≡ r.base) (top_is : top ≡ max old.most (old.given + 1 - old.back)) (total_is : total ≡ total_at base) (rule : CameAlone n (total_at r.base) old.set set1) (arenas : set1.arenas ≡ old.set.arenas ++ Some (first_arena r) ∷ [])
     (regions : Inserted (region_extent r) (regions_of old.set.arenas) (regions_of set1.arenas)) (loans : loans_of set1.arenas ≡ loans_of old.set.arenas) (pools : pools_of set1.arenas ≡ pools_of old.set.arenas) (sound : IsSet set1)
-    (marks : m.sites ≡ old.marks.sites ++ record { arena = n; base = base } ∷ []) where
+    (marks : Inserted (record { arena = old.given + 1; base = base }) old.marks m) where
   abbrev mid : State
   mid = record old { set = set1; marks = m; given = old.given + 1; most = top }
 
@@ -135,8 +135,9 @@ module _ (old : State) (k : IsKeptState old) (r : RegionView) (set1 : SetView) (
     lent = k.lent ∙ ap length (sym loans);
     marked = λ f.
         let site : Site = record { arena = length old.set.arenas + 1; base = r.base } in
-        let same : record { arena = n; base = base } ≡ site = λ i. record { arena = number i; base = base_is i } in
-        let a = ap (tally f) (marks ∙ ap (λ z. old.marks.sites ++ z ∷ []) same) in let b = tally-append f old.marks.sites (site ∷ []) in let o = k.marked f in
+        let next : old.given + 1 ≡ length old.set.arenas + 1 = ap (λ n. n + 1) k.numbered in
+        let same : record { arena = old.given + 1; base = base } ≡ site = λ i. record { arena = next i; base = base_is i } in
+        let a = tally_inserted f (record { arena = old.given + 1; base = base }) old.marks m marks in let b = ap f same in let o = k.marked f in
         let e = ap (λ es. tally f (sites_of es)) arenas in let g = ap (tally f) (sites_more old.set.arenas (first_arena r)) in let h = tally-append f (sites_of old.set.arenas) (site ∷ []) in omega arith;
     full = λ c. k.full c ∙ ap (tally (full_in c)) (sym lines_are);
   }

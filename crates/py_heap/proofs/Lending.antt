@@ -149,7 +149,7 @@ module _ (old : State) (k : IsKeptState old) (c : ℕ) (small : c < 32) (id : Po
         few = let e = given_is in let f = k.few in omega arith;
         out = let e = given_is in let b = back_is in let r = ap length regions_are in let o = k.out in omega arith;
         lent = let p = pooled_is in let l = k.lent in let i = length_inserted (piece_extent piece) (loans_of old.set.arenas) (loans_of new_set.arenas) loans in let n = ap (λ v. length (loans_of v.arenas)) set_is in omega arith;
-        marked = λ f. let m = k.marked f in ap (λ q. tally f q.sites) marks_are ∙ m ∙ ap (tally f) (sym (gave).sites) ∙ ap (λ v. tally f (sites_of v.arenas)) (sym set_is);
+        marked = λ f. let m = k.marked f in ap (tally f) marks_are ∙ m ∙ ap (tally f) (sym (gave).sites) ∙ ap (λ v. tally f (sites_of v.arenas)) (sym set_is);
         full = λ d. let t = tally_replaced (full_in d) x (with_one_more x) (lines_of old.set.arenas) (lines_of new_set.arenas) (gave).lines in let z = not_full_in d x half in let o = k.full d in let n = full_is d in
             let e = ap (λ v. tally (full_in d) (lines_of v.arenas)) set_is in omega arith;
       }

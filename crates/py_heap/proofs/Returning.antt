@@ -113,7 +113,7 @@ module _ (old : State) (k : IsKeptState old) (piece : PieceView) (id : PoolId) (
   unfolding home
   home_there = site_there set1 id.arena (then_is).a (then_is).started.at
 
-  marked : SameSums old.marks.sites (sites_of set1.arenas)
+  marked : SameSums old.marks (sites_of set1.arenas)
   marked f = k.marked f ∙ ap (tally f) (sym (back).sites)
 
   pub can_come : CanComeBack pool.class id mid
@@ -122,7 +122,7 @@ module _ (old : State) (k : IsKeptState old) (piece : PieceView) (id : PoolId) (
     class = small;
     listed = listed;
     give = can_give;
-    marked = record { found = home; there = has_same home (sites_of set1.arenas) old.marks.sites (λ f. sym (marked f)) home_there; has = (omega arith, omega arith) };
+    marked = record { index = id.arena; there = has_same home (sites_of set1.arenas) old.marks (λ f. sym (marked f)) home_there };
   }
 
   module _ (new : State) (region : Option RegionView) (b : ComesBack pool.class id region mid new) where
@@ -182,8 +182,8 @@ module _ (old : State) (k : IsKeptState old) (piece : PieceView) (id : PoolId) (
 
     -- ---- the sites
 
-    sites_by : (r : Option RegionView) → SitesAfter r old.marks.sites new.marks.sites → (o : Option ArenaView) → KeptAfter b.gives.a id.pool r o → new.set.arenas ≡ set set1.arenas (id.arena - 1) o → ((q : RegionView) → r ≡ Some q → region_extent q ≡ region_extent b.gives.a.region) →
-        SameSums new.marks.sites (sites_of new.set.arenas)
+    sites_by : (r : Option RegionView) → SitesAfter r old.marks new.marks → (o : Option ArenaView) → KeptAfter b.gives.a id.pool r o → new.set.arenas ≡ set set1.arenas (id.arena - 1) o → ((q : RegionView) → r ≡ Some q → region_extent q ≡ region_extent b.gives.a.region) →
+        SameSums new.marks (sites_of new.set.arenas)
     sites_by None s o kept e is f =
         let base : kept.0.region.base ≡ b.gives.a.region.base = ap (λ (x : Extent). x.place) kept.1.1.extent in
         ap (tally f) s ∙ marked f ∙ ap (tally f) (sym (sites_same set1.arenas id.arena b.gives.a kept.0 b.gives.at.some b.gives.at.there base)) ∙ ap (λ l. tally f (sites_of l)) (sym (e ∙ ap (set set1.arenas (id.arena - 1)) kept.1.0))
@@ -192,11 +192,13 @@ module _ (old : State) (k : IsKeptState old) (piece : PieceView) (id : PoolId) (
         let mine : Site = record { arena = id.arena; base = b.gives.a.region.base } in
         let mine_there : Has mine (sites_of set1.arenas) = site_there set1 id.arena b.gives.a b.gives.at in
         let mine_has : ArenaHas r.base mine = (omega arith, omega arith) in
-        let found_there : Has s.found (sites_of set1.arenas) = has_same s.found old.marks.sites (sites_of set1.arenas) marked (has_new s.found new.marks.sites old.marks.sites s.removed) in
+        let found : Site = record { arena = s.index; base = r.base } in
+        let found_has : ArenaHas r.base found = (omega arith, omega arith) in
+        let found_there : Has found (sites_of set1.arenas) = has_same found old.marks (sites_of set1.arenas) marked (has_new found new.marks old.marks s.removed) in
         let most : tally (in_arena r.base) (sites_of set1.arenas) ≤ 1 = let c = sites_cover set1 r.base sound in let a = sound.apart r.base in omega arith in
-        let c1 = in_arena_is r.base s.found s.has in let c2 = in_arena_is r.base mine mine_has in
-        let alike : s.found ≡ mine = tally_once (in_arena r.base) (sites_of set1.arenas) s.found mine most found_there mine_there (omega arith) (omega arith) in
-        let a = tally_inserted f s.found new.marks.sites old.marks.sites s.removed in
+        let c1 = in_arena_is r.base found found_has in let c2 = in_arena_is r.base mine mine_has in
+        let alike : found ≡ mine = tally_once (in_arena r.base) (sites_of set1.arenas) found mine most found_there mine_there (omega arith) (omega arith) in
+        let a = tally_inserted f found new.marks old.marks s.removed in
         let d = tally_inserted f mine (sites_of (set set1.arenas (id.arena - 1) None)) (sites_of set1.arenas) (sites_fewer set1.arenas id.arena b.gives.a b.gives.at.some b.gives.at.there) in
         let m = marked f in let g = ap f alike in let h = ap (λ l. tally f (sites_of l)) (e ∙ ap (set set1.arenas (id.arena - 1)) kept) in omega arith
 

@@ -1,7 +1,7 @@
 //! What a heap keeps, and the steps of its calls.
 //!
 //! Each step that can fail comes before the arena source is asked, and each change after it.
-ghost use Rattle.std.specs.Prelude.{◌≡◌, ℕ, ◌+◌, ◌^◌, ◌<◌, ◌≤◌, [], length, Some, None, replicate, ◌↔◌, IsTrue, IfOk, OnOk, OnErr, IfSome, IfNone, IsNone, ◌≢◌};
+ghost use Rattle.std.specs.Prelude.{◌≡◌, ℕ, ◌+◌, ◌^◌, ◌<◌, ◌≤◌, [], length, Some, None, replicate, ◌↔◌, IsTrue, IfOk, IfErr, OnOk, OnErr, IfSome, IfNone, IsNone, ◌≢◌};
 ghost use Rattle.mem_base.specs.declared.history.Grant.TheVariants.{NotAsked};
 ghost use Rattle.extents.specs.Sums.{tally, AllIn};
 ghost use Rattle.extents.specs.Extent.{covers};
@@ -17,9 +17,9 @@ ghost use Rattle.py_heap.specs.Steps.{CanCome, Comes, HasRoomFor, HasRoomForAren
 use crate::HeapGot;
 use crate::classes::ClassPools;
 use crate::counted::{end_one, take_pool};
-use crate::marks::{Mark, Marks};
 use arena_set::{ArenaSet, Lent};
 use mem_base::{Counts, Grant};
+use radix_map::RadixMap;
 use raw_region::{Piece, Region};
 use sources::{ArenaSource, AskError};
 use std::alloc::{AllocError, Global};
@@ -35,7 +35,8 @@ pub(crate) struct Pools {
     pub(crate) set: ArenaSet,
     // By class.
     pub(crate) classes: Vec<ClassPools>,
-    pub(crate) marks: Marks,
+    // By address.
+    pub(crate) marks: RadixMap,
     // How many pools were taken.
     taken: u64,
     // How many arenas were granted, given back, and out at most.
@@ -86,11 +87,12 @@ impl Pools {
         ensures { IfOk result (λ p. IsKeptState (state_of p) × (heap_of (state_of p) ≡ empty_heap)) }
     {
         let classes = no_classes(alloc)?;
+        let marks = RadixMap::new(alloc)?;
         Ok(Pools {
             alloc,
             set: ArenaSet::new(alloc)?,
             classes,
-            marks: Marks::new(alloc),
+            marks,
             taken: 0,
             given: 0,
             back: 0,
@@ -154,26 +156,31 @@ impl Pools {
         ensures room { OnOk result (HasRoomForArena (state_of self.new)) }
         ensures classes { self.new.classes ≡ self.old.classes }
     {
-        self.set.reserve_one()?;
-        self.marks.reserve_one()
+        self.set.reserve_one()
     }
 
-    // One more arena, and how many pools it has.
-    fn add_arena(&mut self, region: Region) -> u8
+    // One more arena, and how many pools it has. Where there is no memory to mark its addresses, the region
+    // comes back.
+    fn add_arena(&mut self, region: Region) -> Result<u8, Region>
         requires kept { IsKeptState (state_of self.old) }
         requires room { HasRoomForArena (state_of self.old) }
         requires come { CanCome region (state_of self.old) }
         ensures kept { IsKeptState (state_of self.new) }
-        ensures comes { Comes result region (state_of self.old) (state_of self.new) }
-        ensures total { result ≡ total_at region.base }
-        ensures usable { usable_of self.new.set ≢ [] }
+        ensures added { IfOk result (λ total. Comes total region (state_of self.old) (state_of self.new) × (total ≡ total_at region.base) × (usable_of self.new.set ≢ [])) }
+        ensures given { OnOk result (self.new.given ≡ self.old.given + 1) }
+        ensures left { IfErr result (λ back. (back ≡ region) × (state_of self.new ≡ state_of self.old)) }
     {
         let base = region.base();
-        let arena = self.set.add(region);
-        self.marks.add(Mark { arena, base });
+        // All addresses of a region are below 2^48.
+        let _len = region.len();
+        match self.marks.mark(base, self.given as u32 + 1) {
+            Ok(()) => {}
+            Err(_) => return Err(region),
+        }
+        let _arena = self.set.add(region);
         self.given += 1;
         self.most = self.most.max(self.given - self.back);
-        pool_count(base)
+        Ok(pool_count(base))
     }
 
     // A block of class `class` in a new arena, with the pool that is to have it.
@@ -198,7 +205,13 @@ impl Pools {
     {
         match arenas.ask() {
             Ok(region) => {
-                let total = self.add_arena(region);
+                let total = match self.add_arena(region) {
+                    Ok(total) => total,
+                    Err(region) => {
+                        arenas.give(region);
+                        return Err(AllocError);
+                    }
+                };
                 match self.lend_new(class) {
                     Some(piece) => Ok(HeapGot {
                         piece: Some(piece),

@@ -24,7 +24,7 @@ returns-then-fits_in_place-clause-changed g c =
     let same : c.place.result ≡ c.args.old.place = c.place.ensures ∙ ap (λ (p : PieceView). p.place) c.piece.ensures.piece in
     let arenas = g.A.ArenaSource.seen c.args.arenas.now in let raws = g.R.RawSource.seen c.args.raws.now in
     let pooled = lies_in_pool c.self.inside.heap c.self.inside.raw c.args.self.now c.self.view_is c.args.old c.requires.loan some c.place.result same c.owns.result c.owns.ensures arenas raws c.requires.held c.if-not-owns.false in
-    let fits = fits_there c.args.old c.piece-2.result.now (c.args.n + 24) c.fits_in_place.result c.piece-2.ensures.piece c.fits_in_place.ensures c.if-fits_in_place.true in
+    let fits = fits_there c.args.old c.piece-2.result.now (c.args.n + 24) c.fits_in_place.result c.piece-2.ensures.piece c.fits_in_place.ensures.length c.if-fits_in_place.true in
     let done = c.resize.ensures in
     inl (record { pooled = pooled; fits = fits }, record { body = done.body; same = done.same; rest = done.rest; extent = done.extent }, (refl, refl))
 
@@ -34,7 +34,7 @@ move_to-requires-2-clause-must g c =
     let same : c.place.result ≡ c.args.old.place = c.place.ensures ∙ ap (λ (p : PieceView). p.place) c.piece.ensures.piece in
     let arenas = g.A.ArenaSource.seen c.args.arenas.now in let raws = g.R.RawSource.seen c.args.raws.now in
     let pooled = lies_in_pool c.self.inside.heap c.self.inside.raw c.args.self.now c.self.view_is c.args.old c.requires.loan some c.place.result same c.owns.result c.owns.ensures arenas raws c.requires.held c.if-not-owns.false in
-    let moves = fits_not_there c.args.old c.piece-2.result.now (c.args.n + 24) c.fits_in_place.result c.piece-2.ensures.piece c.fits_in_place.ensures c.if-fits_in_place.false in
+    let moves = fits_not_there c.args.old c.piece-2.result.now (c.args.n + 24) c.fits_in_place.result c.piece-2.ensures.piece c.fits_in_place.ensures.length c.if-fits_in_place.false in
     inl (pooled, moves, c.uses_pools-pooled.ensures c.args.n)
 
 pub returns-clause-must : goal.returns-clause-must
@@ -43,5 +43,5 @@ returns-clause-must g c =
     let same : c.place.result ≡ c.args.old.place = c.place.ensures ∙ ap (λ (p : PieceView). p.place) c.piece.ensures.piece in
     let arenas = g.A.ArenaSource.seen c.args.arenas.now in let raws = g.R.RawSource.seen c.args.raws.now in
     let pooled = lies_in_pool c.self.inside.heap c.self.inside.raw c.args.self.now c.self.view_is c.args.old c.requires.loan some c.place.result same c.owns.result c.owns.ensures arenas raws c.requires.held c.if-not-owns.false in
-    let moves = fits_not_there c.args.old c.piece-2.result.now (c.args.n + 24) c.fits_in_place.result c.piece-2.ensures.piece c.fits_in_place.ensures c.if-fits_in_place.false in
+    let moves = fits_not_there c.args.old c.piece-2.result.now (c.args.n + 24) c.fits_in_place.result c.piece-2.ensures.piece c.fits_in_place.ensures.length c.if-fits_in_place.false in
     on_err_weaker c.move_to-2.result (λ _. (_, inl (pooled, moves, c.uses_pools-pooled.ensures c.args.n))) c.move_to-2.ensures.failed
