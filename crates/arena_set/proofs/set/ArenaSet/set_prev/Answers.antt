@@ -1,11 +1,11 @@
-use Rattle.std.proofs.Common.{◌≡◌, ◌-◌, get_or, Some, None, refl, sym, ap, subst, ◌∙◌, length-set, arith}
+use Rattle.std.proofs.Common.{length, ◌≡◌, ◌-◌, get_or, Some, None, refl, sym, ap, subst, ◌∙◌, length-set, arith}
 use Rattle.arena_set.specs.Started.{Started}
 use Rattle.arena_set.specs.Arena.{ArenaView}
 use Rattle.arena_set.specs.Kept.{spare_of}
 use Rattle.arena_set.specs.Set.{SetView, usable_of, dry_of, loans_of, regions_of, pools_of}
 use Rattle.arena_set.specs.Calls.{IsAt, Links}
 use Rattle.arena_set.proofs.Flats.{inside, read}
-use Rattle.arena_set.proofs.Sets.{loans_same}
+use Rattle.arena_set.proofs.Sets.{loans_same, still_ranked}
 use Rattle.arena_set.proofs.Changes.{Keeps, with_arena, number_is, change_keeps, change_links, links}
 use Rattle.arena_set.proofs.set.ArenaSet.set_prev.Goals as goal
 
@@ -33,7 +33,7 @@ module _ (c : goal.After-self-1) where
 pub invariant_of-self : goal.invariant_of-self
 invariant_of-self c =
     let i = c.self.invariant in let long = length-set c.self.inside.arenas.items (c.args.pool.arena - 1) (Some c.set_prev.new.self) in
-    record { set = (kept c).set; few = omega (arith, i.few); table = omega (arith, i.table); chain = omega (arith, i.chain) }
+    record { set = (kept c).set; few = omega (arith, i.few); table = omega (arith, i.table); room = omega (arith, i.room); ranked = still_ranked c.self.inside.arenas.items c.self.inside.usable.ranks c.self.inside.usable.nodes (c.args.pool.arena - 1) c.in-Some.arena c.set_prev.new.self (at c).there (ap length (c.set_prev.ensures.after c.requires.s (there c)).free) i.ranked }
 
 pub returns-clause-regions : goal.returns-clause-regions
 returns-clause-regions c = (kept c).regions ∙ ap (λ (v : SetView). regions_of v.arenas) c.self.view_is

@@ -6,7 +6,7 @@ use Rattle.arena_set.specs.Kept.{spare_of}
 use Rattle.arena_set.specs.Set.{SetView, usable_of, dry_of, loans_of, regions_of}
 use Rattle.arena_set.specs.Calls.{IsAt, Starts}
 use Rattle.arena_set.proofs.Flats.{read}
-use Rattle.arena_set.proofs.Sets.{loans_same}
+use Rattle.arena_set.proofs.Sets.{loans_same, still_ranked}
 use Rattle.arena_set.proofs.Changes.{Keeps, with_arena, number_is, change_keeps, change_starts}
 use Rattle.arena_set.proofs.set.ArenaSet.start.Goals as goal
 
@@ -37,7 +37,7 @@ module _ (c : goal.After-self-1) where
 pub invariant_of-self : goal.invariant_of-self
 invariant_of-self c =
     let i = c.self.invariant in let long = length-set c.self.inside.arenas.items (c.args.pool.arena - 1) (Some c.start.new.self) in
-    record { set = (kept c).set; few = omega (arith, i.few); table = omega (arith, i.table); chain = omega (arith, i.chain) }
+    record { set = (kept c).set; few = omega (arith, i.few); table = omega (arith, i.table); room = omega (arith, i.room); ranked = still_ranked c.self.inside.arenas.items c.self.inside.usable.ranks c.self.inside.usable.nodes (c.args.pool.arena - 1) c.in-Some.arena c.start.new.self (at c).there (ap length c.start.ensures.after.free) i.ranked }
 
 pub returns-clause-regions : goal.returns-clause-regions
 returns-clause-regions c = (kept c).regions ∙ ap (λ (v : SetView). regions_of v.arenas) c.self.view_is
