@@ -25,7 +25,7 @@ pub struct BlockReport {
 }
 
 /// One frame of a traceback.
-#[derive(Clone, Copy, Debug, PartialEq, Eq)]
+#[derive(Clone, Copy, Debug, Default, PartialEq, Eq, Hash)]
 pub struct Frame {
     pub file: TextId,
     pub line: u32,
