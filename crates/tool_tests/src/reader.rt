@@ -1,5 +1,6 @@
 //! What the reader makes of inputs. A row of a table has an input, in which a slash stands for the end
-//! of a line, an arrow, and what comes of it: the last operation, or the faulty line and its fault.
+//! of a line, an arrow, and what comes of it: the last pick, or else the last operation of the last track, or
+//! the faulty line and its fault.
 
 use std::alloc::{AllocError, Global};
 use std::test::Fail;
@@ -13,6 +14,7 @@ pymtrace 2/ => line 1: BadHeader
 xxxxxxxxxxxxxxxx => line 1: BadEnd
 pymtrace 1/ => nothing
 pymtrace 1/acquire/ => line 2: Misplaced
+pymtrace 1/pick t 1/ => line 2: NoTrack
 pymtrace 1/acquire => line 2: BadEnd
 pymtrace 1/track t => line 2: BadEnd
 pymtrace 1/track t/ => nothing
@@ -63,7 +65,26 @@ refuse raw/ => line 3: BadWords
 refuse arena 01/ => line 3: BadNumber
 heap x/ => line 3: BadWords
 track t/ => line 3: SameTrack
-track u/ => line 3: TooMany";
+track u/ => nothing
+track u/acquire/track t/ => line 5: SameTrack
+track t!/ => line 3: BadName
+track u/pick u 3/ => Pick { track: 1, times: 3 }
+track u/pick u 3/pick t 1/ => Pick { track: 0, times: 1 }
+pick t 4194304/ => Pick { track: 0, times: 4194304 }
+pick t 4194305/ => line 3: BadRange
+pick t 0/ => line 3: BadRange
+pick t 01/ => line 3: BadNumber
+pick t/ => line 3: BadWords
+pick t 1 1/ => line 3: BadWords
+pick  1/ => line 3: BadWords
+pick t! 0/ => line 3: BadName
+pick u 0/ => line 3: BadRange
+pick u 1/ => line 3: NoTrack
+pick t 4194304/pick t 1/ => line 4: TooMany
+pick t 4194304/pick u 1/ => line 4: NoTrack
+pick t 1/acquire/ => line 4: Misplaced
+pick t 1/track u/ => line 4: Misplaced
+pick t 1/track t x/ => line 4: Misplaced";
 
 // Both sides of each limit: how a line begins, a part of it or whole lines, how often that comes, and
 // what follows.
@@ -72,8 +93,10 @@ poke x 0 |00|1024|/ => read
 poke x 0 |00|1025|/ => line 3: BadRange
 |acquire/|262144| => read
 |acquire/|262145| => line 262147: TooMany
+|acquire/|262144|track u/acquire/ => line 262148: TooMany
 |heap/|1024| => read
 |heap/|1025| => line 1027: TooMany
+|heap/|1024|track u/heap/ => line 1028: TooMany
 malloc r |x|32| 1/ => read
 malloc r |x|33| 1/ => line 3: BadName";
 
@@ -85,6 +108,9 @@ fn answer(alloc: Global, input: &str) -> Result<String, AllocError> {
         Ok(trace) => trace,
         Err(error) => return format!(in alloc; "{error}"),
     };
+    if let Some(pick) = trace.picks.as_slice().last() {
+        return format!(in alloc; "{pick:?}");
+    }
     match trace
         .tracks
         .as_slice()
@@ -145,6 +171,31 @@ fn a_limit_is_taken_and_one_more_refused(rt: HostRuntime) -> Result<(), Fail> {
                 assert_eq!(rt; told.as_str(), wanted, "at {row:?}");
             }
         }
+    }
+    Ok(())
+}
+
+// The header, and so many tracks of different names.
+fn tracks(alloc: Global, count: u32) -> Result<String, AllocError> {
+    let mut input = String::from_str(alloc, "pymtrace 1\n")?;
+    for at in 0..count {
+        let line = format!(in alloc; "track t{at}\n")?;
+        input.push_str(line.as_str())?;
+    }
+    Ok(input)
+}
+
+#[test]
+fn a_65th_track_is_too_many_unless_its_name_is_taken(rt: HostRuntime) -> Result<(), Fail> {
+    for (count, line, wanted) in [
+        (64, "pick t63 1\n", "Pick { track: 63, times: 1 }"),
+        (65, "", "line 66: TooMany"),
+        (64, "track t63\n", "line 66: SameTrack"),
+    ] {
+        let mut input = tracks(rt.alloc(), count)?;
+        input.push_str(line)?;
+        let found = answer(rt.alloc(), input.as_str())?;
+        assert_eq!(rt; found.as_str(), wanted);
     }
     Ok(())
 }

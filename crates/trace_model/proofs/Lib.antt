@@ -4,5 +4,6 @@ mod WordLaws
 mod ActionLaws
 mod LineLaws
 mod LineSteps
+mod NameLaws
 mod TrackLaws
 mod TraceLaws

@@ -112,3 +112,15 @@ lines_with (t ∷ u ∷ ts) a some =
     ∙ ap (λ (x : List ℕ). lines_of t ++ x) (lines_with (u ∷ ts) a (suc_not_zero (length ts)))
     ∙ sym (append_assoc (lines_of t) (track_lines (u ∷ ts)) (with_end (line_of a)))
     ∙ ap (λ (x : List ℕ). x ++ with_end (line_of a)) (sym (flat_map-cons lines_of t (u ∷ ts)))
+
+-- the tracks with one more operation of the last, which is written out
+pub with_last : (ts : List PlainTrack) (t : PlainTrack) (a : Action) → with_action (ts ++ t ∷ []) a ≡ ts ++ record { name = t.name; actions = t.actions ++ a ∷ [] } ∷ []
+with_last [] t a = refl
+with_last (u ∷ []) t a = refl
+with_last (u ∷ v ∷ ts) t a = ap (λ (l : List PlainTrack). u ∷ l) (with_last (v ∷ ts) t a)
+
+pub counts_with_last : (ts : List PlainTrack) (t : PlainTrack) → action_count (ts ++ t ∷ []) ≡ action_count ts + length t.actions
+counts_with_last ts t = omega (arith, sum_by-append (λ (u : PlainTrack). length u.actions) ts (t ∷ []))
+
+pub reports_with_last : (ts : List PlainTrack) (t : PlainTrack) → report_count (ts ++ t ∷ []) ≡ report_count ts + reports_in t.actions
+reports_with_last ts t = omega (arith, sum_by-append (λ (u : PlainTrack). reports_in u.actions) ts (t ∷ []))

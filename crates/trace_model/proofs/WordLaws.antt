@@ -11,6 +11,7 @@ use Rattle.mem_base.specs.declared.trace.Letter.TheVariants.{Raw, Mem, Obj}
 use Rattle.mem_base.specs.declared.trace.Side.{Side}
 use Rattle.mem_base.specs.declared.trace.Side.TheVariants as sides
 use Rattle.mem_base.specs.Name.{Name}
+use Rattle.mem_base.specs.declared.limits.TheConstants.{MAX_PICKS}
 use Rattle.mem_base.specs.Offset.{IsOffset}
 use Rattle.trace_model.specs.Operands.{is_between, is_name, is_name_byte, letter_word, side_word, hex_word, glyph}
 use Rattle.trace_model.proofs.OperandLaws.{are_digits, own, both, low, high, between, whole}
@@ -102,6 +103,9 @@ side_is_word sides.Raw = refl
 
 pub track_words_fit : (name : Name) → is_name name ≡ true → AllByRecursion (λ w. is_word w ≡ true) (codes "track" ∷ name ∷ [])
 track_words_fit name h = (refl, (name_word name h, tt))
+
+pub pick_words_fit : (name : Name) (times : ℕ) → is_name name ≡ true → times ≤ MAX_PICKS → AllByRecursion (λ w. is_word w ≡ true) (codes "pick" ∷ name ∷ decimal times ∷ [])
+pick_words_fit name times h few = (refl, (name_word name h, (number_word times (omega (arith, few)), tt)))
 
 -- ---- cutting
 

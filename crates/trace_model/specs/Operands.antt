@@ -2,7 +2,7 @@
 use Rattle.std.specs.Prelude.{ℕ, zero, suc, ◌+◌, ◌-◌, ◌*◌, ◌/◌, ◌%◌, ◌^◌, ℤ, pos, negsuc, Bool, false, ◌&&◌, ◌||◌, nat_le, nat_lt, ◌==◌, if◌then◌else◌, List, [], ◌∷◌, length, Option, Some, None, Result, Ok, Err, codes}
 use Rattle.std.specs.List.{list_all}
 use Rattle.std.specs.Str.{bytes_eq}
-use Rattle.mem_base.specs.declared.limits.TheConstants.{MAX_NAME, MAX_REACH, MAX_REFUSAL}
+use Rattle.mem_base.specs.declared.limits.TheConstants.{MAX_NAME, MAX_PICKS, MAX_REACH, MAX_REFUSAL}
 use Rattle.mem_base.specs.declared.trace.Letter.{Letter}
 use Rattle.mem_base.specs.declared.trace.Letter.TheVariants.{Raw, Mem, Obj}
 use Rattle.mem_base.specs.declared.trace.Side.{Side}
@@ -99,6 +99,10 @@ count_at w = number_in 1 MAX_REACH w
 -- the number of the request that is refused, counted from the next one on
 abbrev pub refusal_at : List ℕ → Result ℕ TraceCause
 refusal_at w = number_in 1 MAX_REFUSAL w
+
+-- how often a track is picked in a row
+abbrev pub times_at : List ℕ → Result ℕ TraceCause
+times_at w = number_in 1 MAX_PICKS w
 
 abbrev pub name_at : List ℕ → Result (Unit {0}) TraceCause
 name_at w = if is_name w then Ok tt else Err BadName

@@ -1,14 +1,14 @@
 -- Reading a trace line by line, up to the first faulty line and its first fault.
-use Rattle.std.specs.Prelude.{ℕ, ◌+◌, Bool, true, false, not, ◌&&◌, ◌||◌, nat_lt, ◌==◌, if◌then◌else◌, List, [], ◌∷◌, ◌++◌, length, Result, Ok, Err}
+use Rattle.std.specs.Prelude.{ℕ, ◌+◌, Bool, false, not, ◌&&◌, ◌||◌, nat_le, nat_lt, ◌==◌, if◌then◌else◌, List, [], ◌∷◌, ◌++◌, length, Result, Ok, Err}
 use Rattle.std.specs.List.{list_all, list_any, slice_split}
 use Rattle.std.specs.Str.{bytes_eq}
 use Rattle.mem_base.specs.Name.{Name}
-use Rattle.mem_base.specs.declared.limits.TheConstants.{MAX_OPS, MAX_REPORTS}
-use Rattle.trace_model.specs.Operands.{◌>>=◌, is_between, name_at}
+use Rattle.mem_base.specs.declared.limits.TheConstants.{MAX_OPS, MAX_PICKS, MAX_REPORTS, MAX_TRACKS}
+use Rattle.trace_model.specs.Operands.{◌>>=◌, is_between, name_at, times_at}
 use Rattle.trace_model.specs.Plain.{Action, PlainTrack, PlainTrace, keywords, keyword_among, is_report, action_at}
-use Rattle.trace_model.specs.Spelling.{blank, line_end, head_text, action_count, report_count, header}
+use Rattle.trace_model.specs.Spelling.{blank, line_end, head_text, action_count, report_count, pick_count, header}
 use Rattle.trace_model.specs.declared.cause.TraceCause.{TraceCause}
-use Rattle.trace_model.specs.declared.cause.TraceCause.TheVariants.{BadEnd, BadHeader, BadByte, UnknownWord, Misplaced, BadWords, SameTrack, TooMany}
+use Rattle.trace_model.specs.declared.cause.TraceCause.TheVariants.{BadEnd, BadHeader, BadByte, UnknownWord, Misplaced, BadWords, SameTrack, NoTrack, TooMany}
 use Rattle.trace_model.specs.declared.keyword.Head.{Head}
 use Rattle.trace_model.specs.declared.keyword.Head.TheVariants as heads
 
@@ -18,11 +18,14 @@ use Rattle.trace_model.specs.declared.keyword.Head.TheVariants as heads
 abbrev pub head_at : List ℕ → Result Head TraceCause
 head_at w =
     if bytes_eq w (head_text heads.Track) then Ok heads.Track
+    else if bytes_eq w (head_text heads.Pick) then Ok heads.Pick
     else keyword_among keywords w >>= λ k. Ok (heads.Op k)
 
-abbrev pub is_track : Head → Bool
-is_track heads.Track = true
-is_track (heads.Op k) = false
+-- an operation in front of the first track or behind a pick, or a track behind a pick
+abbrev pub is_misplaced : PlainTrace → Head → Bool
+is_misplaced t heads.Track = nat_lt 0 (length t.picks)
+is_misplaced t heads.Pick = false
+is_misplaced t (heads.Op k) = length t.tracks == 0 || nat_lt 0 (length t.picks)
 
 abbrev pub is_empty : List ℕ → Bool
 is_empty w = length w == 0
@@ -33,11 +36,11 @@ is_empty w = length w == 0
 abbrev pub with_track : PlainTrace → Name → PlainTrace
 with_track t name = record t { tracks = t.tracks ++ record { name = name; actions = [] } ∷ [] }
 
--- a track's name differs from the earlier ones; until there may be several tracks, there is one
+-- a track's name differs from the earlier ones, and there are not too many
 abbrev pub start : PlainTrace → Name → Result PlainTrace TraceCause
 start t name =
     if list_any (λ track. bytes_eq track.name name) t.tracks then Err SameTrack
-    else if nat_lt (length t.tracks) 1 then Ok (with_track t name)
+    else if nat_lt (length t.tracks) MAX_TRACKS then Ok (with_track t name)
     else Err TooMany
 
 abbrev pub start_at : PlainTrace → List (List ℕ) → Result PlainTrace TraceCause
@@ -58,15 +61,35 @@ has_room t a = nat_lt (action_count t.tracks) MAX_OPS && (not (is_report a) || n
 abbrev pub add : PlainTrace → Action → Result PlainTrace TraceCause
 add t a = if has_room t a then Ok (record t { tracks = with_action t.tracks a }) else Err TooMany
 
+-- the index of the track of a name
+abbrev pub index_of : List PlainTrack → Name → Result ℕ TraceCause
+index_of [] name = Err NoTrack
+index_of (t ∷ ts) name = if bytes_eq t.name name then Ok 0 else index_of ts name >>= λ i. Ok (i + 1)
+
+-- the trace with one more pick, of the track at an index
+abbrev pub pick : PlainTrace → ℕ → ℕ → Result PlainTrace TraceCause
+pick t i times =
+    if nat_le (pick_count t.picks + times) MAX_PICKS then Ok (record t { picks = t.picks ++ (i, times) ∷ [] })
+    else Err TooMany
+
+unfoldable pub pick_at : PlainTrace → List (List ℕ) → Result PlainTrace TraceCause
+pick_at t (name ∷ times ∷ []) = do
+  u ← name_at name
+  n ← times_at times
+  i ← index_of t.tracks name
+  pick t i n
+pick_at t ws = Err BadWords
+
 abbrev pub item_at : PlainTrace → Head → List (List ℕ) → Result PlainTrace TraceCause
 item_at t heads.Track ws = start_at t ws
+item_at t heads.Pick ws = pick_at t ws
 item_at t (heads.Op k) ws = action_at k ws >>= λ a. add t a
 
 -- the words of a line: the first word, where it stands, that no word is empty, and the operands
 abbrev pub words_at : PlainTrace → List (List ℕ) → Result PlainTrace TraceCause
 words_at t [] = Err UnknownWord
 words_at t (first ∷ ws) = head_at first >>= λ h.
-    if not (is_track h) && length t.tracks == 0 then Err Misplaced
+    if is_misplaced t h then Err Misplaced
     else if list_any is_empty ws then Err BadWords
     else item_at t h ws
 

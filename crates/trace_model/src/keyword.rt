@@ -1,4 +1,4 @@
-//! What a line begins with, a track or an operation, and what is said of each operation once: its
+//! What a line begins with, a track, a pick or an operation, and what is said of each operation once: its
 //! keyword, and the name of the block that it works on. A keyword is spelt in one table,
 //! [`Keyword::word`], which reading, spelling and reports use. An operation that no trace may have yet
 //! has no keyword.
@@ -23,10 +23,12 @@ pub enum Keyword {
     Refuse,
 }
 
-/// What the first word of a line after the header begins: a track, or an operation of the last track.
+/// What the first word of a line after the header begins: a track, picks of a track, or an operation of
+/// the last track.
 #[derive(Clone, Copy, Debug, PartialEq, Eq)]
 pub enum Head {
     Track,
+    Pick,
     Op(Keyword),
 }
 
@@ -122,6 +124,7 @@ impl Head {
     {
         match self {
             Head::Track => "track",
+            Head::Pick => "pick",
             Head::Op(keyword) => keyword.word(),
         }
     }

@@ -5,8 +5,10 @@
 //! trace is, both ways. The functions here are the table of keywords and the laws that tie the
 //! definitions together.
 //!
-//! A trace is lines of words. The first line is `pymtrace 1`, then comes a line `track NAME`, and
-//! then a line for each of the track's operations:
+//! A trace is lines of words. The first line is `pymtrace 1`. Then comes for each track, of which there
+//! are at most 64, a line `track NAME` and a line for each of its operations. Last come the picks: lines
+//! `pick NAME NUM`, with the name of a track and how often it is picked in a row. All picks together
+//! pick at most 4,194,304 times. The operations are:
 //!
 //! | Line | Operands |
 //! |---|---|

@@ -1,94 +1,115 @@
 -- An operation that was read is added to the trace.
-use Rattle.std.proofs.Common.{◌≡◌, ℕ, ◌+◌, ◌<◌, Bool, true, false, cond, not, ◌&&◌, ◌||◌, List, [], ◌∷◌, ◌++◌, length, map, Option, Some, None, Result, Ok, Err, refl, sym, ap, subst, ◌∙◌, arith, length-append}
-use Rattle.std.specs.Prelude.{IsSome, OnOk, nat_lt}
+use Rattle.std.proofs.Common.{◌≡◌, ℕ, ◌+◌, ◌<◌, Bool, true, false, cond, not, ◌&&◌, ◌||◌, List, [], ◌∷◌, ◌++◌, length, Ok, Err, refl, sym, ap, subst, ◌∙◌, arith, true≢false}
+use Rattle.std.specs.Prelude.{◌==◌, nat_lt}
+use Rattle.std.specs.List.{AllByRecursion}
 use Rattle.std.proofs.lemmas.Bool.{ltb-true}
 use Rattle.std.proofs.lemmas.List.{map-append, length-map}
 use Rattle.mem_base.specs.declared.limits.TheConstants.{MAX_OPS, MAX_REPORTS}
-use Rattle.mem_base.specs.declared.texts.TextId.{TextId}
 use Rattle.mem_base.specs.declared.trace.Op.{Op}
+use Rattle.mem_base.specs.declared.trace.Track.{Track}
 use Rattle.mem_base.specs.Name.{Name}
 use Rattle.trace_model.specs.Operands.{◌>>=◌}
-use Rattle.trace_model.specs.Plain.{Action, PlainTrace, text_at, action_of, action_at}
-use Rattle.trace_model.specs.Spelling.{action_count, reports_in, report_count}
+use Rattle.trace_model.specs.Plain.{PlainTrack, PlainTrace, plain, text_at, track_of, tracks_of, action_of, action_at}
+use Rattle.trace_model.specs.Spelling.{action_count, report_count}
 use Rattle.trace_model.specs.Known.{IsKnownOp}
-use Rattle.trace_model.specs.Reading.{item_at, add, with_action}
-use Rattle.trace_model.specs.declared.cause.TraceCause.{TraceCause}
+use Rattle.trace_model.specs.Reading.{item_at, is_misplaced, add, has_room, with_action}
 use Rattle.trace_model.specs.declared.cause.TraceCause.TheVariants.{TooMany}
 use Rattle.trace_model.specs.declared.keyword.Keyword.{Keyword}
 use Rattle.trace_model.specs.declared.keyword.Head.TheVariants as heads
-use Rattle.trace_model.proofs.CallerLemmas.{both, test_holds, ok_is}
-use Rattle.trace_model.proofs.CallerLemmas.{all_push, reports_in-push, room_kept}
-use Rattle.trace_reader.specs.declared.error.LineError.{LineError}
-use Rattle.trace_reader.specs.declared.error.LineError.TheVariants as line
-use Rattle.trace_reader.specs.Answers.{Gives}
-use Rattle.trace_reader.specs.Progress.{Extends, so_far, IsKnownSoFar, is_report_op, push}
-use Rattle.trace_reader.proofs.Growth.{so_far_stays, ops_still_known, report_is}
+use Rattle.trace_model.proofs.CallerLemmas.{both, all_push, suc_not_zero, action_count-with, report_count-with}
+use Rattle.trace_reader.specs.Progress.{Extends, IsKnownTrack, IsKnownSoFar, is_report_op, has_place, counts_with, with_op}
+use Rattle.trace_reader.specs.declared.progress.Progress.{Progress}
+use Rattle.trace_reader.proofs.Growth.{tracks_stay, tracks_still_known, few_more, report_is}
+
+-- ---- the tracks with one more operation
+
+pub with_op_last : (ts : List Track) (t : Track) (op : Op) → with_op (ts ++ t ∷ []) op ≡ ts ++ record { name = t.name; ops = t.ops ++ op ∷ [] } ∷ []
+with_op_last [] t op = refl
+with_op_last (u ∷ []) t op = refl
+with_op_last (u ∷ v ∷ ts) t op = ap (λ (l : List Track). u ∷ l) (with_op_last (v ∷ ts) t op)
+
+with_op_length : (ts : List Track) (op : Op) → length (with_op ts op) ≡ length ts
+with_op_length [] op = refl
+with_op_length (t ∷ []) op = refl
+with_op_length (t ∷ u ∷ ts) op = omega (arith, with_op_length (u ∷ ts) op)
+
+with_op_known : (texts : List Name) (ts : List Track) (op : Op) → IsKnownOp texts op → AllByRecursion (IsKnownTrack texts) ts → AllByRecursion (IsKnownTrack texts) (with_op ts op)
+with_op_known texts [] op fits known = tt
+with_op_known texts (t ∷ []) op fits known = (record { name = known.0.name; ops = all_push (IsKnownOp texts) t.ops op known.0.ops fits }, tt)
+with_op_known texts (t ∷ u ∷ ts) op fits known = (known.0, with_op_known texts (u ∷ ts) op fits known.1)
+
+with_op_is : (texts : List Name) (ts : List Track) (op : Op) → tracks_of texts (with_op ts op) ≡ with_action (tracks_of texts ts) (action_of texts op)
+with_op_is texts [] op = refl
+with_op_is texts (t ∷ []) op = λ i. record { name = text_at texts t.name; actions = map-append (action_of texts) t.ops (op ∷ []) i } ∷ []
+with_op_is texts (t ∷ u ∷ ts) op = ap (λ (l : List PlainTrack). track_of texts t ∷ l) (with_op_is texts (u ∷ ts) op)
+
+-- where an operation has a place, a track was begun
+pub some_begun : (p : Progress) (k : Keyword) → is_misplaced (plain p.trace) (heads.Op k) ≡ false → 0 < length p.trace.tracks
+some_begun p k placed = by p.trace.tracks placed
+  where
+    by : (ts : List Track) → (length (tracks_of p.trace.texts ts) == 0 || nat_lt 0 (length (plain p.trace).picks)) ≡ false → 0 < length ts
+    by [] h = absurd (true≢false h)
+    by (t ∷ ts) h = omega arith
+
+-- ---- what the line comes to
 
 report_counts : (report : Bool) (n : ℕ) → cond report (n + 1) n ≡ n + cond report 1 0
 report_counts true n = refl
 report_counts false n = omega arith
 
-module _ (texts news : List Name) (name : TextId) (ops : List Op) (reports : ℕ) (op : Op) (grows : Extends texts news) (known : IsKnownSoFar texts (Some name) ops reports) where
-  -- what push_op tests, and what it leaves
-  abbrev has_place : Bool
-  has_place = nat_lt (length ops) MAX_OPS && (not (is_report_op op) || nat_lt reports MAX_REPORTS)
+module _ (p : Progress) (news : List Name) (op : Op) (known : IsKnownSoFar p) (grows : Extends p.trace.texts news) where
+  abbrev t : PlainTrace
+  t = plain p.trace
 
-  abbrev one_more : List Op × ℕ
-  one_more = (ops ++ op ∷ [], cond (is_report_op op) (reports + 1) reports)
+  -- whether there is room is told by the counts
+  room_is : has_room t (action_of news op) ≡ has_place p.counts op
+  room_is = λ i. nat_lt (sym known.counts.ops i) MAX_OPS && (not (report_is news op i) || nat_lt (sym known.counts.reports i) MAX_REPORTS)
 
-  count_is : action_count (so_far texts (Some name) ops).tracks ≡ length ops
-  count_is = omega (arith, length-map ops (action_of texts))
+  -- there was no room
+  pub refused : (k : Keyword) (ws : List (List ℕ)) → action_at k ws ≡ Ok (action_of news op) → has_place p.counts op ≡ false → item_at t (heads.Op k) ws ≡ Err TooMany
+  refused k ws read none =
+      ap (λ s. s >>= λ a. add t a) read
+      ∙ ap (λ (b : Bool). cond b (Ok (record t { tracks = with_action t.tracks (action_of news op) })) (Err TooMany)) (room_is ∙ none)
 
-  reports_are : report_count (so_far texts (Some name) ops).tracks ≡ reports
-  reports_are = omega (arith, known.4)
+  module _ (ops : List Track) (is : ops ≡ with_op p.trace.tracks op) where
+    abbrev then : Progress
+    then = record { trace = record { texts = news; tracks = ops; picks = p.trace.picks }; counts = counts_with p.counts op }
 
-  with_op : with_action (so_far texts (Some name) ops).tracks (action_of news op) ≡ (so_far news (Some name) (ops ++ op ∷ [])).tracks
-  with_op =
-      ap (λ (t : PlainTrace). with_action t.tracks (action_of news op)) (sym (so_far_stays texts news (Some name) ops reports grows known))
-      ∙ ap (λ (acts : List Action). record { name = text_at news name; actions = acts } ∷ []) (sym (map-append (action_of news) ops (op ∷ [])))
+    tracks_then : tracks_of news ops ≡ with_action t.tracks (action_of news op)
+    tracks_then =
+        ap (tracks_of news) is ∙ with_op_is news p.trace.tracks op
+        ∙ ap (λ (ts : List PlainTrack). with_action ts (action_of news op)) (tracks_stay p.trace.texts news p.trace.tracks grows known.tracks)
 
-  add_is : add (so_far texts (Some name) ops) (action_of news op) ≡ (push ops reports op >>= λ after. Ok (so_far news (Some name) after.0))
-  add_is =
-      (λ i. cond (nat_lt (count_is i) MAX_OPS && (not (report_is news op i) || nat_lt (reports_are i) MAX_REPORTS)) (Ok (record { tracks = with_op i; picks = [] })) (Err TooMany)) ∙ by has_place
-    where
-      by : (b : Bool) → cond b (Ok (so_far news (Some name) (ops ++ op ∷ []))) (Err TooMany) ≡ (cond b (Ok one_more) (Err TooMany) >>= λ after. Ok (so_far news (Some name) after.0))
-      by true = refl
-      by false = refl
+    -- there was room
+    pub added : (k : Keyword) (ws : List (List ℕ)) → action_at k ws ≡ Ok (action_of news op) → has_place p.counts op ≡ true → item_at t (heads.Op k) ws ≡ Ok (plain then.trace)
+    added k ws read room =
+        ap (λ s. s >>= λ a. add t a) read
+        ∙ ap (λ (b : Bool). cond b (Ok (record t { tracks = with_action t.tracks (action_of news op) })) (Err TooMany)) (room_is ∙ room)
+        ∙ (λ i. Ok (record t { tracks = sym tracks_then i }))
 
-  push_known : (after : List Op × ℕ) → IsKnownOp news op → push ops reports op ≡ Ok after → IsKnownSoFar news (Some name) after.0 after.1
-  push_known after fits is =
-      let p = test_holds has_place (Ok one_more) TooMany after is in
-      let rooms = both (nat_lt (length ops) MAX_OPS) (not (is_report_op op) || nat_lt reports MAX_REPORTS) p.0 in
-      let room : length ops < MAX_OPS = ltb-true _ _ rooms.0 in
-      let still = ops_still_known texts news name ops reports grows known in
-      let len : length (ops ++ op ∷ []) ≡ length ops + 1 = length-append ops (op ∷ []) in
-      let next = report_counts (is_report_op op) reports in
-      subst (λ (x : List Op × ℕ). IsKnownSoFar news (Some name) x.0 x.1) (ok_is one_more after p.1) (
-        still.0,
-        all_push (IsKnownOp news) ops op still.1 fits,
-        omega arith,
-        omega (arith, still.2, len),
-        next ∙ (λ i. still.3 i + cond (sym (report_is news op) i) 1 0) ∙ sym (reports_in-push (map (action_of news) ops) (action_of news op)) ∙ ap reports_in (sym (map-append (action_of news) ops (op ∷ []))),
-        omega (arith, next, room_kept (is_report_op op) reports MAX_REPORTS rooms.1 known.5),
-      )
+    pub still_known : IsKnownOp news op → has_place p.counts op ≡ true → 0 < length p.trace.tracks → IsKnownSoFar then
+    still_known fits room some =
+        let rooms = both (nat_lt p.counts.ops MAX_OPS) (not (is_report_op op) || nat_lt p.counts.reports MAX_REPORTS) room in
+        let below : p.counts.ops < MAX_OPS = ltb-true _ _ rooms.0 in
+        let same : length ops ≡ length p.trace.tracks = ap length is ∙ with_op_length p.trace.tracks op in
+        let begun = begun_is t.tracks (omega (arith, some, length_plain)) in
+        record {
+          tracks = subst (AllByRecursion (IsKnownTrack news)) (sym is) (with_op_known news p.trace.tracks op fits (tracks_still_known p.trace.texts news p.trace.tracks grows known.tracks));
+          few = omega (arith, same, known.few);
+          texts = omega (arith, same, known.texts, few_more p.trace.texts news grows);
+          counts = record {
+            ops = omega (arith, known.counts.ops, action_count-with t.tracks (action_of news op) begun, ap action_count tracks_then);
+            reports = report_counts (is_report_op op) p.counts.reports ∙ (λ i. known.counts.reports i + cond (sym (report_is news op) i) 1 0)
+                ∙ sym (report_count-with t.tracks (action_of news op) begun) ∙ ap report_count (sym tracks_then);
+            picks = known.counts.picks;
+          };
+          few_ops = omega (arith, below);
+          few_picks = known.few_picks;
+        }
+      where
+        length_plain : length t.tracks ≡ length p.trace.tracks
+        length_plain = length-map p.trace.tracks _
 
--- what a step answers after another, if that answered as it should
-then_gives : {X Y : Type 0} (view : X → Y) (after : X) (r : Result (Unit {0}) LineError) (read : Result X TraceCause) → Gives (λ _. after) r read → Gives (λ _. view after) r (read >>= λ x. Ok (view x))
-then_gives view after (Ok u) read is = ap (λ s. s >>= λ x. Ok (view x)) is
-then_gives view after (Err line.OutOfMemory) read is = tt
-then_gives view after (Err (line.Wrong c)) read is = ap (λ s. s >>= λ x. Ok (view x)) is
-
-pub action_known : (texts news : List Name) (track : Option TextId) (ops : List Op) (reports : ℕ) (after : List Op × ℕ) (op : Op) (r : Result (Unit {0}) LineError) → IsSome track → Extends texts news → IsKnownSoFar texts track ops reports → IsKnownOp news op
-    → Gives (λ _. after) r (push ops reports op) → OnOk r (IsKnownSoFar news track after.0 after.1)
-action_known texts news None ops reports after op r begun grows known fits is = absurd cc
-action_known texts news (Some name) ops reports after op (Ok u) begun grows known fits is = push_known texts news name ops reports op grows known after fits is
-action_known texts news (Some name) ops reports after op (Err e) begun grows known fits is = tt
-
-pub action_read : (k : Keyword) (ws : List (List ℕ)) (texts news : List Name) (track : Option TextId) (ops : List Op) (reports : ℕ) (after : List Op × ℕ) (op : Op) (r : Result (Unit {0}) LineError) → IsSome track → Extends texts news
-    → IsKnownSoFar texts track ops reports → action_at k ws ≡ Ok (action_of news op) → Gives (λ _. after) r (push ops reports op) → Gives (λ _. so_far news track after.0) r (item_at (so_far texts track ops) (heads.Op k) ws)
-action_read k ws texts news None ops reports after op r begun grows known read is = absurd cc
-action_read k ws texts news (Some name) ops reports after op r begun grows known read is =
-    let t = so_far texts (Some name) ops in
-    let whole : item_at t (heads.Op k) ws ≡ (push ops reports op >>= λ l. Ok (so_far news (Some name) l.0)) =
-    ap (λ s. s >>= λ a. add t a) read ∙ add_is texts news name ops reports op grows known in
-    subst (Gives (λ _. so_far news (Some name) after.0) r) (sym whole) (then_gives (λ (l : List Op × ℕ). so_far news (Some name) l.0) after r (push ops reports op) is)
+        begun_is : (ts : List PlainTrack) → 0 < length ts → (length ts == 0) ≡ false
+        begun_is [] lt = absurd (omega arith)
+        begun_is (u ∷ us) lt = suc_not_zero (length us)

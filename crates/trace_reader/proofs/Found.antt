@@ -1,22 +1,25 @@
 -- What a reader's answer says of the bytes, and what a machine knows of the trace.
-use Rattle.std.proofs.Common.{◌≡◌, ℕ, zero, suc, ◌<◌, ◌≤◌, List, [], ◌∷◌, length, slice_get, Option, Some, None, Result, Ok, Err, sym, ap, subst, ◌∙◌, arith}
+use Rattle.std.proofs.Common.{◌≡◌, ℕ, zero, suc, ◌<◌, ◌≤◌, List, [], ◌∷◌, length, slice_get, Some, Result, Ok, Err, refl, subst, arith}
 use Rattle.std.specs.Prelude.{IfOk}
 use Rattle.std.specs.List.{AllByRecursion}
 use Rattle.std.proofs.lemmas.Option.{slice_get_within}
+use Rattle.std.proofs.lemmas.List.{length-map}
+use Rattle.std.proofs.lemmas.List.Sums.{sum_by-cons}
 use Rattle.mem_base.specs.declared.limits.TheConstants.{MAX_OPS}
-use Rattle.mem_base.specs.declared.texts.TextId.{TextId}
 use Rattle.mem_base.specs.declared.trace.Op.{Op}
 use Rattle.mem_base.specs.declared.trace.Track.{Track}
 use Rattle.mem_base.specs.declared.trace.Trace.{Trace}
 use Rattle.mem_base.specs.Name.{Name}
-use Rattle.trace_model.specs.Plain.{PlainTrace, plain}
-use Rattle.trace_model.specs.Spelling.{spelling, IsWellFormed}
-use Rattle.trace_model.specs.Known.{IsKnown, IsKnownOp, IsKnownTrace, op_at, op_count}
+use Rattle.trace_model.specs.Plain.{PlainTrack, PlainTrace, plain, action_of, track_of, tracks_of}
+use Rattle.trace_model.specs.Spelling.{action_count, spelling, IsWellFormed}
+use Rattle.trace_model.specs.Known.{IsKnownOp, IsKnownTrace, op_at, op_count}
 use Rattle.trace_model.specs.Reading.{trace_at}
 use Rattle.trace_model.proofs.CallerLemmas.{trace_takes, read_back}
 use Rattle.trace_reader.specs.declared.error.TraceError.{TraceError}
 use Rattle.trace_reader.specs.Answers.{Reads}
-use Rattle.trace_reader.specs.Progress.{tracks_so_far, IsKnownSoFar}
+use Rattle.trace_reader.specs.Progress.{IsKnownTrack, IsKnownSoFar}
+use Rattle.trace_reader.specs.declared.progress.Progress.{Progress}
+use Rattle.trace_reader.proofs.TrackSteps.{name_known}
 
 pub is_found : (bytes : List ℕ) (r : Result Trace TraceError) → Reads plain r (trace_at bytes) → IfOk r (λ t. IsWellFormed (plain t) × (bytes ≡ spelling (plain t)))
 is_found bytes (Ok t) read = trace_takes bytes (plain t) read
@@ -34,30 +37,28 @@ op_known texts (o ∷ ops) zero op known is =
     subst (IsKnownOp texts) e known.0
 op_known texts (o ∷ ops) (suc at) op known is = op_known texts ops at op known.1 is
 
-known_name : (texts : List Name) (track : Option TextId) (ops : List Op) (reports : ℕ) → IsKnownSoFar texts track ops reports → (t : ℕ) (found : Track) → slice_get (tracks_so_far track ops) t ≡ Some found → IsKnown texts found.name
-known_name texts None ops reports known t found is = absurd cc
-known_name texts (Some name) ops reports known zero found is =
-    let first : Track = record { name = name; ops = ops } in
-    let e : first ≡ found = cc in
-    subst (λ (x : Track). IsKnown texts x.name) e known.0
-known_name texts (Some name) ops reports known (suc t) found is = absurd cc
+-- an operation of a track is known, and its place is below the number of all operations
+op_known_at : (texts : List Name) (ts : List Track) → AllByRecursion (IsKnownTrack texts) ts → (t at : ℕ) (op : Op) → op_at ts t at ≡ Some op → IsKnownOp texts op × (at < op_count ts)
+op_known_at texts [] known t at op is = absurd cc
+op_known_at texts (u ∷ us) known zero at op is =
+    (op_known texts u.ops at op known.0.ops is, omega (arith, slice_get_within u.ops at op is, sum_by-cons (λ (x : Track). length x.ops) u us))
+op_known_at texts (u ∷ us) known (suc t) at op is =
+    let rest = op_known_at texts us known.1 t at op is in
+    (rest.0, omega (arith, rest.1, sum_by-cons (λ (x : Track). length x.ops) u us))
 
-known_op : (texts : List Name) (track : Option TextId) (ops : List Op) (reports : ℕ) → IsKnownSoFar texts track ops reports → (t at : ℕ) (op : Op) → op_at (tracks_so_far track ops) t at ≡ Some op → IsKnownOp texts op × (at < MAX_OPS)
-known_op texts None ops reports known t at op is = absurd cc
-known_op texts (Some name) ops reports known zero at op is = (op_known texts ops at op known.1 is, omega (arith, slice_get_within ops at op is, known.2))
-known_op texts (Some name) ops reports known (suc t) at op is = absurd cc
+ops_counted : (texts : List Name) (ts : List Track) → action_count (tracks_of texts ts) ≡ op_count ts
+ops_counted texts [] = refl
+ops_counted texts (t ∷ ts) =
+    omega (arith, ops_counted texts ts, sum_by-cons (λ (x : PlainTrack). length x.actions) (track_of texts t) (tracks_of texts ts), sum_by-cons (λ (x : Track). length x.ops) t ts, length-map t.ops (action_of texts))
 
--- a trace of one track or none
-pub trace_known : (trace : Trace) (track : Option TextId) (ops : List Op) (reports : ℕ) → trace.tracks ≡ tracks_so_far track ops → IsKnownSoFar trace.texts track ops reports → IsKnownTrace trace
-trace_known trace track ops reports is known =
-    let at = by track known in
+pub trace_known : (p : Progress) → IsKnownSoFar p → IsKnownTrace p.trace
+trace_known p known =
+    let few : op_count p.trace.tracks ≤ MAX_OPS = omega (arith, ops_counted p.trace.texts p.trace.tracks, known.counts.ops, known.few_ops) in
     record {
-      few = omega (arith, ap length is, at.0);
-      names = λ t found e. known_name trace.texts track ops reports known t found (ap (λ (ts : List Track). slice_get ts t) (sym is) ∙ e);
-      ops = λ t place op e. known_op trace.texts track ops reports known t place op (ap (λ (ts : List Track). op_at ts t place) (sym is) ∙ e);
-      count = omega (arith, ap op_count is, at.1);
+      few = known.few;
+      names = λ t found e. name_known p.trace.texts p.trace.tracks t found known.tracks e;
+      ops = λ t place op e.
+          let one = op_known_at p.trace.texts p.trace.tracks known.tracks t place op e in
+          (one.0, omega (arith, one.1, few));
+      count = few;
     }
-  where
-    by : (o : Option TextId) → IsKnownSoFar trace.texts o ops reports → (length (tracks_so_far o ops) ≤ 1) × (op_count (tracks_so_far o ops) ≤ MAX_OPS)
-    by None h = (omega arith, omega arith)
-    by (Some name) h = (omega arith, omega (arith, h.2))

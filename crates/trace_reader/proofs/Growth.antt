@@ -1,19 +1,19 @@
 -- A table that grows changes no number's text.
-use Rattle.std.proofs.Common.{◌≡◌, ℕ, zero, suc, ◌+◌, ◌<◌, ◌≤◌, List, [], ◌∷◌, ◌++◌, length, slice_get, Option, Some, None, refl, sym, ap, ◌∙◌, arith, length-append, append-nil, subst, map, Bool, true, false, ◌||◌, cond}
+use Rattle.std.proofs.Common.{◌≡◌, ℕ, zero, suc, ◌+◌, ◌<◌, ◌≤◌, List, [], ◌∷◌, ◌++◌, length, slice_get, Option, Some, refl, sym, ap, ◌∙◌, arith, length-append, append-nil, subst, map, Bool, true, false, ◌||◌, cond}
 use Rattle.std.specs.Prelude.{unwrap_or}
 use Rattle.std.specs.List.{AllByRecursion, list_any}
 use Rattle.std.specs.Str.{bytes_eq}
 use Rattle.std.proofs.lemmas.Option.{slice_get_within}
 use Rattle.mem_base.specs.Texts.{with_text}
 use Rattle.mem_base.specs.declared.texts.TextId.{TextId}
+use Rattle.mem_base.specs.declared.trace.Track.{Track}
 use Rattle.mem_base.specs.declared.trace.Op.{Op}
 use Rattle.mem_base.specs.declared.trace.Op.TheVariants.{Heap}
 use Rattle.mem_base.specs.Name.{Name}
-use Rattle.trace_model.specs.Plain.{action_of, is_report, text_at}
-use Rattle.trace_model.specs.Spelling.{reports_in}
+use Rattle.trace_model.specs.Plain.{action_of, is_report, tracks_of}
 use Rattle.trace_model.specs.Known.{IsKnown, IsKnownOp}
 use Rattle.trace_model.proofs.CallerLemmas.{actions_stay, known_stays, ops_stay, text_stays}
-use Rattle.trace_reader.specs.Progress.{Extends, so_far, IsKnownSoFar, is_report_op}
+use Rattle.trace_reader.specs.Progress.{Extends, IsKnownTrack, is_report_op}
 
 pub interned_extends : (texts : List Name) (text : Name) → Extends texts (with_text texts text)
 interned_extends texts text = by (list_any (bytes_eq text) texts)
@@ -30,22 +30,27 @@ pub any_map : {X : Type 0} (p : List ℕ → Bool) (f : X → List ℕ) (xs : Li
 any_map p f [] = refl
 any_map p f (x ∷ xs) = ap (λ (b : Bool). p (f x) || b) (any_map p f xs)
 
--- a table that grew changes nothing that was read
-pub so_far_stays : (texts news : List Name) (track : Option TextId) (ops : List Op) (reports : ℕ) → Extends texts news → IsKnownSoFar texts track ops reports → so_far news track ops ≡ so_far texts track ops
-so_far_stays texts news None ops reports grows known = refl
-so_far_stays texts news (Some name) ops reports grows known =
-    ap (λ (ts : List Name). so_far ts (Some name) ops) grows.grown
-    ∙ (λ i. record { tracks = record { name = text_stays texts grows.more name known.0 i; actions = actions_stay texts grows.more ops known.1 i } ∷ []; picks = [] })
+-- what was read is known still, and stands for the same
+tracks_known : (texts more : List Name) (ts : List Track) → AllByRecursion (IsKnownTrack texts) ts → AllByRecursion (IsKnownTrack (texts ++ more)) ts
+tracks_known texts more [] known = tt
+tracks_known texts more (t ∷ ts) known =
+    (record { name = known_stays texts more t.name known.0.name; ops = ops_stay texts more t.ops known.0.ops }, tracks_known texts more ts known.1)
 
-pub ops_still_known : (texts news : List Name) (name : TextId) (ops : List Op) (reports : ℕ) → Extends texts news → IsKnownSoFar texts (Some name) ops reports
-    → IsKnown news name × AllByRecursion (IsKnownOp news) ops × (length news ≤ length ops + 3) × (reports ≡ reports_in (map (action_of news) ops))
-ops_still_known texts news name ops reports grows known =
-    subst (λ (ts : List Name). IsKnown ts name × AllByRecursion (IsKnownOp ts) ops × (length ts ≤ length ops + 3) × (reports ≡ reports_in (map (action_of ts) ops))) (sym grows.grown) (
-      known_stays texts grows.more name known.0,
-      ops_stay texts grows.more ops known.1,
-      omega (arith, known.3, grows.few, length-append texts grows.more),
-      known.4 ∙ ap reports_in (sym (actions_stay texts grows.more ops known.1)),
-    )
+tracks_same : (texts more : List Name) (ts : List Track) → AllByRecursion (IsKnownTrack texts) ts → tracks_of (texts ++ more) ts ≡ tracks_of texts ts
+tracks_same texts more [] known = refl
+tracks_same texts more (t ∷ ts) known = λ i.
+    record { name = text_stays texts more t.name known.0.name i; actions = actions_stay texts more t.ops known.0.ops i } ∷ tracks_same texts more ts known.1 i
+
+pub tracks_still_known : (texts news : List Name) (ts : List Track) → Extends texts news → AllByRecursion (IsKnownTrack texts) ts → AllByRecursion (IsKnownTrack news) ts
+tracks_still_known texts news ts grows known =
+    subst (λ (n : List Name). AllByRecursion (IsKnownTrack n) ts) (sym grows.grown) (tracks_known texts grows.more ts known)
+
+pub tracks_stay : (texts news : List Name) (ts : List Track) → Extends texts news → AllByRecursion (IsKnownTrack texts) ts → tracks_of news ts ≡ tracks_of texts ts
+tracks_stay texts news ts grows known = ap (λ (n : List Name). tracks_of n ts) grows.grown ∙ tracks_same texts grows.more ts known
+
+-- a line brings two texts at most
+pub few_more : (texts news : List Name) → Extends texts news → length news ≤ length texts + 2
+few_more texts news grows = omega (arith, ap length grows.grown, length-append texts grows.more, grows.few)
 
 -- the table does not matter to what an operation prints
 pub report_is : (texts : List Name) (op : Op) → is_report (action_of texts op) ≡ is_report_op op

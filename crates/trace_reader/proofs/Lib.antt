@@ -4,3 +4,4 @@ mod Growth
 mod HexPairs
 mod LineSteps
 mod Parts
+mod TrackSteps

@@ -1,45 +1,62 @@
 -- What a reader has read so far.
-use Rattle.std.specs.Prelude.{◌≡◌, ℕ, ◌+◌, ◌≤◌, Bool, not, ◌&&◌, ◌||◌, List, [], ◌∷◌, ◌++◌, length, map, nat_lt, if◌then◌else◌, Option, Some, None, Result, Ok, Err}
+use Rattle.std.specs.Prelude.{◌≡◌, ◌+◌, ◌*◌, ◌≤◌, Bool, not, ◌&&◌, ◌||◌, List, [], ◌∷◌, ◌++◌, length, nat_lt, if◌then◌else◌}
 use Rattle.std.specs.List.{AllByRecursion}
-use Rattle.mem_base.specs.declared.limits.TheConstants.{MAX_OPS, MAX_REPORTS}
+use Rattle.mem_base.specs.declared.limits.TheConstants.{MAX_OPS, MAX_PICKS, MAX_REPORTS, MAX_TRACKS}
 use Rattle.mem_base.specs.declared.trace.Op.{Op}
 use Rattle.mem_base.specs.declared.trace.Track.{Track}
-use Rattle.mem_base.specs.declared.texts.TextId.{TextId}
 use Rattle.mem_base.specs.Name.{Name}
-use Rattle.trace_model.specs.Plain.{PlainTrace, action_of, tracks_of, is_report}
-use Rattle.trace_model.specs.Spelling.{reports_in}
+use Rattle.trace_model.specs.Plain.{PlainTrace, plain, action_of, is_report}
+use Rattle.trace_model.specs.Spelling.{action_count, report_count, pick_count}
 use Rattle.trace_model.specs.Known.{IsKnown, IsKnownOp}
-use Rattle.trace_model.specs.declared.cause.TraceCause.{TraceCause}
-use Rattle.trace_model.specs.declared.cause.TraceCause.TheVariants.{TooMany}
+use Rattle.trace_reader.specs.declared.progress.Counts.{Counts}
+use Rattle.trace_reader.specs.declared.progress.Progress.{Progress}
 
--- a table with at most one more text at its end
+-- a table with at most as many more texts at its end as a line may name
 pub record Extends (old new : List Name) : Type 0 where
   pub more : List Name
-  pub few : length more ≤ 1
+  pub few : length more ≤ 2
   pub grown : new ≡ old ++ more
 
--- the track, where one was begun, with its operations
-abbrev pub tracks_so_far : Option TextId → List Op → List Track
-tracks_so_far None ops = []
-tracks_so_far (Some name) ops = record { name = name; ops = ops } ∷ []
+-- its name and those of its operations are in the table
+pub record IsKnownTrack (texts : List Name) (t : Track) : Type 0 where
+  pub name : IsKnown texts t.name
+  pub ops : AllByRecursion (IsKnownOp texts) t.ops
 
--- the trace of the lines that were read
-abbrev pub so_far : List Name → Option TextId → List Op → PlainTrace
-so_far texts track ops = record { tracks = tracks_of texts (tracks_so_far track ops); picks = [] }
+-- the counts are those of the trace
+pub record AreCounted (c : Counts) (t : PlainTrace) : Type 0 where
+  pub ops : c.ops ≡ action_count t.tracks
+  pub reports : c.reports ≡ report_count t.tracks
+  pub picks : c.picks ≡ pick_count t.picks
 
--- each number is in the table, there are no operations before a track, each line has added one text at most,
--- and the operations that print more than a reply were counted, and are not too many
-abbrev pub IsKnownSoFar : List Name → Option TextId → List Op → ℕ → Type 0
-IsKnownSoFar texts None ops reports = (ops ≡ []) × (length texts ≤ 1) × (reports ≡ 0)
-IsKnownSoFar texts (Some name) ops reports =
-    IsKnown texts name × AllByRecursion (IsKnownOp texts) ops × (length ops ≤ MAX_OPS) × (length texts ≤ length ops + 2) × (reports ≡ reports_in (map (action_of texts) ops)) × (reports ≤ MAX_REPORTS)
+-- each name is in the table, each line has added two texts at most, and the limits are kept
+pub record IsKnownSoFar (p : Progress) : Type 0 where
+  pub tracks : AllByRecursion (IsKnownTrack p.trace.texts) p.trace.tracks
+  pub few : length p.trace.tracks ≤ MAX_TRACKS
+  pub texts : length p.trace.texts ≤ 1 + 2 * length p.trace.tracks + 2 * p.counts.ops
+  pub counts : AreCounted p.counts (plain p.trace)
+  pub few_ops : p.counts.ops ≤ MAX_OPS
+  pub few_picks : p.counts.picks ≤ MAX_PICKS
+
+-- ---- one more operation
 
 -- an operation that prints more than a reply, whatever the table
 abbrev pub is_report_op : Op → Bool
 is_report_op op = is_report (action_of [] op)
 
--- the operations with one more, and how many of them print more than a reply, if there is room for it
-abbrev pub push : List Op → ℕ → Op → Result (List Op × ℕ) TraceCause
-push ops reports op =
-    if nat_lt (length ops) MAX_OPS && (not (is_report_op op) || nat_lt reports MAX_REPORTS) then Ok (ops ++ op ∷ [], if is_report_op op then reports + 1 else reports)
-    else Err TooMany
+-- there is room for one more operation, and for one that prints more than a reply where this is one
+abbrev pub has_place : Counts → Op → Bool
+has_place c op = nat_lt c.ops MAX_OPS && (not (is_report_op op) || nat_lt c.reports MAX_REPORTS)
+
+-- the counts with it
+abbrev pub counts_with : Counts → Op → Counts
+counts_with c op = record {
+  ops = c.ops + 1;
+  reports = if is_report_op op then c.reports + 1 else c.reports;
+  picks = c.picks;
+}
+
+-- the tracks with one more operation of the last
+abbrev pub with_op : List Track → Op → List Track
+with_op [] op = []
+with_op (t ∷ []) op = record { name = t.name; ops = t.ops ++ op ∷ [] } ∷ []
+with_op (t ∷ u ∷ ts) op = t ∷ with_op (u ∷ ts) op

@@ -8,14 +8,13 @@ ghost use Rattle.trace_model.specs.Known.{IsKnownTrace};
 ghost use Rattle.trace_model.specs.Spelling.{line_end, header, spelling, IsWellFormed};
 ghost use Rattle.trace_model.specs.Reading.{trace_at, lines_at, opening};
 ghost use Rattle.trace_model.specs.Reading as Reading;
-ghost use Rattle.trace_reader.specs.Progress.{tracks_so_far, so_far, IsKnownSoFar};
 ghost use Rattle.trace_reader.specs.Answers.{Reads, at_line};
 
 use crate::error::{LineError, TraceError};
 use crate::progress::Progress;
 use crate::words::next_line;
-use mem_base::{List, Op, TextId, Trace, Track};
-use std::alloc::{AllocError, Global};
+use mem_base::Trace;
+use std::alloc::Global;
 use trace_model::TraceCause;
 
 /// The trace that the bytes spell, or the first faulty line and its first fault.
@@ -97,7 +96,8 @@ fn read_lines(alloc: Global, bytes: &[u8]) -> Result<Trace, TraceError>
             cause: TraceCause::BadEnd,
         });
     }
-    finish(alloc, progress).map_err(|_| TraceError::OutOfMemory)
+    let Progress { trace, counts: _ } = progress;
+    Ok(trace)
 }
 
 // The error of a line, with its number.
@@ -108,34 +108,4 @@ fn at(line: u64, error: LineError) -> TraceError
         LineError::OutOfMemory => TraceError::OutOfMemory,
         LineError::Wrong(cause) => TraceError::At { line, cause },
     }
-}
-
-// The track that has been begun, if any.
-fn tracks(alloc: Global, track: Option<TextId>, ops: List<Op>) -> Result<List<Track>, AllocError>
-    ensures { IfOk result (λ tracks. tracks ≡ tracks_so_far track ops) }
-{
-    let mut tracks = List::new(alloc);
-    if let Some(name) = track {
-        tracks.push(Track { name, ops })?;
-    }
-    Ok(tracks)
-}
-
-// The trace of all lines.
-fn finish(alloc: Global, progress: Progress) -> Result<Trace, AllocError>
-    requires { IsKnownSoFar progress.texts progress.track progress.ops progress.reports }
-    ensures read { IfOk result (λ t. plain t ≡ so_far progress.texts progress.track progress.ops) }
-    ensures known { IfOk result IsKnownTrace }
-{
-    let Progress {
-        texts,
-        track,
-        ops,
-        ..
-    } = progress;
-    Ok(Trace {
-        texts,
-        tracks: tracks(alloc, track, ops)?,
-        picks: List::new(alloc),
-    })
 }

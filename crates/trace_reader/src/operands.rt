@@ -3,12 +3,12 @@
 ghost use Rattle.std.specs.Prelude.{◌≡◌, ◌*◌, ◌+◌, ◌-◌, ◌^◌, ◌≤◌, ◌&&◌, nat_lt, length, IfOk, Some, None, if◌then◌else◌};
 ghost use Rattle.std.specs.List.{list_all};
 ghost use Rattle.mem_base.specs.Offset.{IsOffset};
-ghost use Rattle.trace_model.specs.Operands.{is_between, is_name_byte, digits_from, number_at, offset_at, forward_at, backward_at, number_in, count_at, refusal_at, name_at, letter_at, side_at, hex_from, hex_at, digit_of};
+ghost use Rattle.trace_model.specs.Operands.{is_between, is_name_byte, digits_from, number_at, offset_at, forward_at, backward_at, number_in, count_at, refusal_at, times_at, name_at, letter_at, side_at, hex_from, hex_at, digit_of};
 ghost use Rattle.trace_model.specs.Reading.{head_at};
 ghost use Rattle.trace_reader.specs.Answers.{Gives};
 
 use crate::error::LineError;
-use mem_base::limits::{MAX_NAME, MAX_REACH, MAX_REFUSAL};
+use mem_base::limits::{MAX_NAME, MAX_PICKS, MAX_REACH, MAX_REFUSAL};
 use mem_base::{Letter, List, Side};
 use std::alloc::Global;
 use trace_model::{Head, Keyword, TraceCause};
@@ -19,6 +19,9 @@ pub fn head(word: &[u8]) -> Result<Head, TraceCause>
 {
     if word == Head::Track.word().as_bytes() {
         return Ok(Head::Track);
+    }
+    if word == Head::Pick.word().as_bytes() {
+        return Ok(Head::Pick);
     }
     for keyword in &Keyword::all() {
         if word == keyword.word().as_bytes() {
@@ -126,6 +129,15 @@ pub fn refusal(word: &[u8]) -> Result<u64, TraceCause>
     ensures range { IfOk result (λ n. (1 ≤ n) × (n ≤ MAX_REFUSAL)) }
 {
     number_in(word, 1, MAX_REFUSAL)
+}
+
+/// How often a track is picked in a row.
+pub fn times(word: &[u8]) -> Result<u32, TraceCause>
+    ensures value { result ≡ times_at word.now }
+    ensures range { IfOk result (λ n. (1 ≤ n) × (n ≤ MAX_PICKS)) }
+{
+    let value = number_in(word, 1, MAX_PICKS as u64)?;
+    Ok(value as u32)
 }
 
 fn is_name_byte(b: u8) -> bool

@@ -1,31 +1,45 @@
-//! What was read so far, one line more at a time. The track's operations stand in one list, and those
-//! that print more than a reply are counted, so that no line is read twice.
-ghost use Rattle.std.specs.Prelude.{◌≡◌, ◌≢◌, ◌+◌, ◌<◌, ◌≤◌, ◌-◌, ◌^◌, length, map, IfOk, OnOk, IsSome, slice_get, Some, Ok, Err, false, if◌then◌else◌};
-ghost use Rattle.std.specs.Str.{bytes_eq};
-ghost use Rattle.std.specs.List.{list_any};
-ghost use Rattle.trace_model.specs.Reading.{line_at, words_at, item_at, start_at, is_empty, is_track, opening};
-ghost use Rattle.trace_model.specs.declared.cause.TraceCause.TheVariants.{SameTrack, TooMany};
+//! What was read so far, one line more at a time: the trace, and how many operations and picks it has, so
+//! that no line is read twice to keep the limits.
+//!
+//! A line begins a track, is an operation of the last track, or picks a track. Its words are looked at in
+//! the order in which their faults count: the first word, its place among the lines, that no word is
+//! empty, and then the operands.
+ghost use Rattle.std.specs.Prelude.{◌≡◌, ◌+◌, ◌<◌, ◌≤◌, ◌-◌, ◌^◌, length, map, IfOk, OnOk, Ok, Err, false, if◌then◌else◌};
+ghost use Rattle.std.specs.List.{list_any, AllByRecursion};
+ghost use Rattle.mem_base.specs.declared.limits.TheConstants.{MAX_TRACKS as most_tracks};
+ghost use Rattle.trace_model.specs.Plain.{plain, tracks_of};
+ghost use Rattle.trace_model.specs.Reading.{line_at, words_at, item_at, start, start_at, pick_at, index_of, is_empty, opening};
+ghost use Rattle.trace_model.specs.Reading as Reading;
+ghost use Rattle.trace_model.specs.declared.cause.TraceCause.TheVariants.{TooMany as too_many};
 ghost use Rattle.trace_model.specs.declared.keyword.Head.TheVariants as heads;
 ghost use Rattle.trace_reader.specs.Answers.{Gives};
-ghost use Rattle.trace_reader.specs.Progress.{so_far, IsKnownSoFar, is_report_op, push};
+ghost use Rattle.trace_reader.specs.Progress.{IsKnownSoFar, IsKnownTrack, is_report_op, has_place, counts_with, with_op};
 
 use crate::error::LineError;
-use crate::operands::{head, name};
+use crate::operands::{head, name, times};
 use crate::operations::{intern, read_op};
 use crate::words::cut;
-use mem_base::limits::{MAX_OPS, MAX_REPORTS};
-use mem_base::{List, Op, TextId, Texts};
+use mem_base::limits::{MAX_OPS, MAX_PICKS, MAX_REPORTS, MAX_TRACKS};
+use mem_base::{List, Op, Pick, Texts, Trace, Track, TrackId};
 use std::alloc::{AllocError, Global};
 use trace_model::{Head, Keyword, TraceCause};
 
-/// What was read so far: the track, where there is one, and its operations.
+/// How much of what is limited a trace has.
+#[derive(Clone, Copy, Debug, Drop)]
+pub struct Counts {
+    /// The operations over all tracks.
+    pub ops: usize,
+    /// Those of them that print more than a reply.
+    pub reports: usize,
+    /// The picks, each as often as it says.
+    pub picks: u32,
+}
+
+/// What was read so far.
 #[derive(Drop)]
 pub struct Progress {
-    pub texts: Texts,
-    pub track: Option<TextId>,
-    pub ops: List<Op>,
-    /// How many of the operations print more than a reply.
-    pub reports: usize,
+    pub trace: Trace,
+    pub counts: Counts,
 }
 
 // Whether an operation prints more than a reply.
@@ -38,30 +52,50 @@ fn is_report(op: &Op) -> bool
     }
 }
 
-// Adds an operation, if there is room for it.
-fn push_op(ops: &mut List<Op>, reports: &mut usize, op: Op) -> Result<(), LineError>
-    ensures { Gives (λ _. (ops.new, reports.new)) result (push ops.old reports.old op) }
-{
-    let report = is_report(&op);
-    if ops.len() >= MAX_OPS || report && *reports >= MAX_REPORTS {
-        return Err(LineError::Wrong(TraceCause::TooMany));
+impl Counts {
+    // Counts one more operation, if there is room for it.
+    fn add_op(&mut self, op: &Op) -> Result<(), TraceCause>
+        ensures room { result ≡ (if has_place self.old op.now then Ok tt else Err too_many) }
+        ensures counts { OnOk result (self.new ≡ counts_with self.old op.now) }
+    {
+        let report = is_report(op);
+        if self.ops >= MAX_OPS || report && self.reports >= MAX_REPORTS {
+            return Err(TraceCause::TooMany);
+        }
+        self.ops += 1;
+        if report {
+            self.reports += 1;
+        }
+        Ok(())
     }
-    ops.push(op)?;
-    if report {
-        *reports += 1;
-    }
-    Ok(())
 }
 
-// Why a track may not follow another: it has the same name, or it is one too many.
-fn another(first: &[u8], second: &[u8]) -> TraceCause
-    ensures { result ≡ (if bytes_eq first.now second.now then SameTrack else TooMany) }
+// Adds an operation to the last track.
+fn push_op(tracks: &mut List<Track>, op: Op) -> Result<(), AllocError>
+    requires { 0 < length tracks.old }
+    ensures { OnOk result (tracks.new ≡ with_op tracks.old op) }
 {
-    if first == second {
-        TraceCause::SameTrack
-    } else {
-        TraceCause::TooMany
+    let Some(mut track) = tracks.pop() else {
+        unreachable!()
+    };
+    track.ops.push(op)?;
+    tracks.push(track)
+}
+
+// The track of that name.
+fn track_named(texts: &Texts, tracks: &List<Track>, name: &[u8]) -> Result<TrackId, TraceCause>
+    requires known { AllByRecursion (IsKnownTrack texts.now) tracks.now }
+    requires few { length tracks.now ≤ most_tracks }
+    ensures { result ≡ index_of (tracks_of texts.now tracks.now) name.now }
+{
+    let mut at = 0;
+    while let Some(track) = tracks.get(at) {
+        if texts.get(track.name) == name {
+            return Ok(at as TrackId);
+        }
+        at += 1;
     }
+    Err(TraceCause::NoTrack)
 }
 
 fn has_empty(words: &[&[u8]]) -> bool
@@ -73,14 +107,20 @@ fn has_empty(words: &[&[u8]]) -> bool
 impl Progress {
     /// A trace of which the header alone was read.
     pub fn new(alloc: Global) -> Result<Progress, AllocError>
-        ensures known { IfOk result (λ p. IsKnownSoFar p.texts p.track p.ops p.reports) }
-        ensures none { IfOk result (λ p. so_far p.texts p.track p.ops ≡ opening) }
+        ensures known { IfOk result IsKnownSoFar }
+        ensures none { IfOk result (λ p. plain p.trace ≡ opening) }
     {
         Ok(Progress {
-            texts: Texts::new(alloc)?,
-            track: None,
-            ops: List::new(alloc),
-            reports: 0,
+            trace: Trace {
+                texts: Texts::new(alloc)?,
+                tracks: List::new(alloc),
+                picks: List::new(alloc),
+            },
+            counts: Counts {
+                ops: 0,
+                reports: 0,
+                picks: 0,
+            },
         })
     }
 
@@ -92,10 +132,9 @@ impl Progress {
         line: &'a [u8],
         words: &mut Vec<&'a [u8]>,
     ) -> Result<(), LineError>
-        requires { IsKnownSoFar self.old.texts self.old.track self.old.ops self.old.reports }
-        ensures known { OnOk result (IsKnownSoFar self.new.texts self.new.track self.new.ops self.new.reports) }
-        ensures read { Gives (λ _. so_far self.new.texts self.new.track self.new.ops) result
-            (line_at (so_far self.old.texts self.old.track self.old.ops) line.now) }
+        requires { IsKnownSoFar self.old }
+        ensures known { OnOk result (IsKnownSoFar self.new) }
+        ensures read { Gives (λ _. plain self.new.trace) result (line_at (plain self.old.trace) line.now) }
     {
         cut(line, words)?;
         self.words(alloc, words.as_slice())
@@ -104,16 +143,16 @@ impl Progress {
     // Takes the words of a line.
     #[tactic(auto, using(crate::proofs::Growth::any_map))]
     fn words(&mut self, alloc: Global, words: &[&[u8]]) -> Result<(), LineError>
-        requires { IsKnownSoFar self.old.texts self.old.track self.old.ops self.old.reports }
-        ensures known { OnOk result (IsKnownSoFar self.new.texts self.new.track self.new.ops self.new.reports) }
-        ensures read { Gives (λ _. so_far self.new.texts self.new.track self.new.ops) result
-            (words_at (so_far self.old.texts self.old.track self.old.ops) (map (λ w. w.now) words.now)) }
+        requires { IsKnownSoFar self.old }
+        ensures known { OnOk result (IsKnownSoFar self.new) }
+        ensures read { Gives (λ _. plain self.new.trace) result
+            (words_at (plain self.old.trace) (map (λ w. w.now) words.now)) }
     {
         let Some((first, operands)) = words.split_first() else {
             return Err(LineError::Wrong(TraceCause::UnknownWord));
         };
         let head = head(first)?;
-        if matches!(head, Head::Op(_)) && self.track.is_none() {
+        if self.is_misplaced(head) {
             return Err(LineError::Wrong(TraceCause::Misplaced));
         }
         if has_empty(operands) {
@@ -122,47 +161,97 @@ impl Progress {
         self.item(alloc, head, operands)
     }
 
-    // Takes the operands of a line.
-    fn item(&mut self, alloc: Global, head: Head, words: &[&[u8]]) -> Result<(), LineError>
-        requires known { IsKnownSoFar self.old.texts self.old.track self.old.ops self.old.reports }
-        requires track { is_track head ≡ false → IsSome self.old.track }
-        ensures known { OnOk result (IsKnownSoFar self.new.texts self.new.track self.new.ops self.new.reports) }
-        ensures read { Gives (λ _. so_far self.new.texts self.new.track self.new.ops) result
-            (item_at (so_far self.old.texts self.old.track self.old.ops) head (map (λ w. w.now) words.now)) }
+    // Whether the lines so far leave no place for a line that begins so.
+    fn is_misplaced(&self, head: Head) -> bool
+        ensures { result ≡ Reading.is_misplaced (plain self.now.trace) head }
     {
         match head {
-            Head::Track => self.start(words),
+            Head::Track => self.trace.picks.len() > 0,
+            Head::Pick => false,
+            Head::Op(_) => self.trace.tracks.len() == 0 || self.trace.picks.len() > 0,
+        }
+    }
+
+    // Takes the operands of a line.
+    fn item(&mut self, alloc: Global, head: Head, words: &[&[u8]]) -> Result<(), LineError>
+        requires known { IsKnownSoFar self.old }
+        requires placed { Reading.is_misplaced (plain self.old.trace) head ≡ false }
+        ensures known { OnOk result (IsKnownSoFar self.new) }
+        ensures read { Gives (λ _. plain self.new.trace) result
+            (item_at (plain self.old.trace) head (map (λ w. w.now) words.now)) }
+    {
+        match head {
+            Head::Track => self.start(alloc, words),
+            Head::Pick => self.pick(words),
             Head::Op(keyword) => self.action(alloc, keyword, words),
         }
     }
 
-    // Begins the track.
-    fn start(&mut self, words: &[&[u8]]) -> Result<(), LineError>
-        requires { IsKnownSoFar self.old.texts self.old.track self.old.ops self.old.reports }
-        ensures known { OnOk result (IsKnownSoFar self.new.texts self.new.track self.new.ops self.new.reports) }
-        ensures read { Gives (λ _. so_far self.new.texts self.new.track self.new.ops) result
-            (start_at (so_far self.old.texts self.old.track self.old.ops) (map (λ w. w.now) words.now)) }
+    // Begins a track.
+    fn start(&mut self, alloc: Global, words: &[&[u8]]) -> Result<(), LineError>
+        requires { IsKnownSoFar self.old }
+        ensures known { OnOk result (IsKnownSoFar self.new) }
+        ensures read { Gives (λ _. plain self.new.trace) result
+            (start_at (plain self.old.trace) (map (λ w. w.now) words.now)) }
     {
         let [text] = words else {
             return Err(LineError::Wrong(TraceCause::BadWords));
         };
         name(text)?;
-        if let Some(track) = self.track {
-            return Err(LineError::Wrong(another(self.texts.get(track), text)));
+        self.begin(alloc, text)
+    }
+
+    // Begins a track of that name.
+    fn begin(&mut self, alloc: Global, text: &[u8]) -> Result<(), LineError>
+        requires { IsKnownSoFar self.old }
+        ensures known { OnOk result (IsKnownSoFar self.new) }
+        ensures read { Gives (λ _. plain self.new.trace) result (start (plain self.old.trace) text.now) }
+    {
+        if track_named(&self.trace.texts, &self.trace.tracks, text).is_ok() {
+            return Err(LineError::Wrong(TraceCause::SameTrack));
         }
-        self.track = Some(intern(&mut self.texts, text)?);
+        if self.trace.tracks.len() >= MAX_TRACKS {
+            return Err(LineError::Wrong(TraceCause::TooMany));
+        }
+        let name = intern(&mut self.trace.texts, text)?;
+        let ops = List::new(alloc);
+        self.trace.tracks.push(Track { name, ops })?;
+        Ok(())
+    }
+
+    // Takes the operands of a pick.
+    #[tactic(auto, unfolding(trace_model::specs::Reading::pick_at))]
+    fn pick(&mut self, words: &[&[u8]]) -> Result<(), LineError>
+        requires { IsKnownSoFar self.old }
+        ensures known { OnOk result (IsKnownSoFar self.new) }
+        ensures read { Gives (λ _. plain self.new.trace) result
+            (pick_at (plain self.old.trace) (map (λ w. w.now) words.now)) }
+    {
+        let [text, number] = words else {
+            return Err(LineError::Wrong(TraceCause::BadWords));
+        };
+        name(text)?;
+        let times = times(number)?;
+        let track = track_named(&self.trace.texts, &self.trace.tracks, text)?;
+        if self.counts.picks + times > MAX_PICKS {
+            return Err(LineError::Wrong(TraceCause::TooMany));
+        }
+        self.trace.picks.push(Pick { track, times })?;
+        self.counts.picks += times;
         Ok(())
     }
 
     // Takes the operands of an operation.
     fn action(&mut self, alloc: Global, keyword: Keyword, words: &[&[u8]]) -> Result<(), LineError>
-        requires known { IsKnownSoFar self.old.texts self.old.track self.old.ops self.old.reports }
-        requires track { IsSome self.old.track }
-        ensures known { OnOk result (IsKnownSoFar self.new.texts self.new.track self.new.ops self.new.reports) }
-        ensures read { Gives (λ _. so_far self.new.texts self.new.track self.new.ops) result
-            (item_at (so_far self.old.texts self.old.track self.old.ops) (heads.Op keyword) (map (λ w. w.now) words.now)) }
+        requires known { IsKnownSoFar self.old }
+        requires placed { Reading.is_misplaced (plain self.old.trace) (heads.Op keyword) ≡ false }
+        ensures known { OnOk result (IsKnownSoFar self.new) }
+        ensures read { Gives (λ _. plain self.new.trace) result
+            (item_at (plain self.old.trace) (heads.Op keyword) (map (λ w. w.now) words.now)) }
     {
-        let op = read_op(alloc, &mut self.texts, keyword, words)?;
-        push_op(&mut self.ops, &mut self.reports, op)
+        let op = read_op(alloc, &mut self.trace.texts, keyword, words)?;
+        self.counts.add_op(&op)?;
+        push_op(&mut self.trace.tracks, op)?;
+        Ok(())
     }
 }
