@@ -44,10 +44,10 @@ same_spots a b spots many pieces regions same are = record {
 }
 
 -- what contracts see of these fields
-abbrev pub view_of : Trace → List Entry → Holding → MachineView
-view_of trace es now = record { trace = trace; entries = es; arenas = now.store.arenas; raws = now.store.raws; pieces = now.store.pieces }
+abbrev pub view_of : Trace → List Entry → List ℕ → Holding → MachineView
+view_of trace es picks now = record { trace = trace; entries = es; picks = picks; arenas = now.store.arenas; raws = now.store.raws; pieces = now.store.pieces }
 
-pub spots_are : (trace : Trace) (es : List Entry) (now : Holding) (done : List ℕ) (faulted : _) → Stands trace es now done faulted → (spots : List Spot) → AreSpots (living now.store) spots → AreSpots (living_in (view_of trace es now)) spots
-spots_are trace es now done faulted stands spots are =
-    same_spots (living now.store) (living_in (view_of trace es now)) spots (sym stands.held.blocks.size) refl refl
+pub spots_are : (picks : List ℕ) (trace : Trace) (es : List Entry) (now : Holding) (done : List ℕ) (faulted : _) → Stands trace es now done faulted → (spots : List Spot) → AreSpots (living now.store) spots → AreSpots (living_in (view_of trace es picks now)) spots
+spots_are picks trace es now done faulted stands spots are =
+    same_spots (living now.store) (living_in (view_of trace es picks now)) spots (sym stands.held.blocks.size) refl refl
     (λ name lt. name_holds trace.texts now.store.blocks (last_state (plain trace).tracks es).held.blocks name stands.held.blocks lt) are

@@ -1,5 +1,6 @@
 pub mod Acts
 pub mod Held
+pub mod Picks
 pub mod Ready
 pub mod Spots
 pub mod Stands

@@ -1,11 +1,11 @@
 -- What contracts see of a machine.
-use Rattle.std.specs.Prelude.{◌≡◌, ℕ, List, [], ◌∷◌, ◌++◌, Option}
+use Rattle.std.specs.Prelude.{◌≡◌, ℕ, Bool, List, [], ◌∷◌, ◌++◌, Option}
 use Rattle.mem_base.specs.declared.history.Entry.{Entry}
 use Rattle.mem_base.specs.declared.reply.Step.{Step}
 use Rattle.mem_base.specs.declared.trace.Side.{Side}
 use Rattle.mem_base.specs.declared.trace.Trace.{Trace}
 use Rattle.trace_model.specs.Plain.{PlainTrack, plain}
-use Rattle.event_model.specs.Events.{event, next_action}
+use Rattle.event_model.specs.Events.{event, is_ready, next_action}
 use Rattle.event_model.specs.History.{last_state, IsNext}
 use Rattle.event_model.specs.Plans.{GrowsBy, lists}
 use Rattle.event_model.specs.Replies.{plain_reply}
@@ -16,11 +16,12 @@ use Rattle.extents.specs.Extent.{Extent}
 use Rattle.sources.specs.Holder.{Answered, Traded}
 use Rattle.sources.specs.Source.{SourceView}
 
--- a machine: its trace, its stored history, the arenas and the raw regions that it holds, and by the number of
--- its name the memory of each block
+-- a machine: its trace, its stored history, the picks that are left, one by one, the arenas and the raw regions
+-- that it holds, and by the number of its name the memory of each block
 pub record MachineView : Type 0 where
   pub trace : Trace
   pub entries : List Entry
+  pub picks : List ℕ
   pub arenas : List Extent
   pub raws : List Extent
   pub pieces : List (Option PieceView)
@@ -32,6 +33,10 @@ tracks_of m = (plain m.trace).tracks
 -- the state that its history leads to
 abbrev pub state_of : MachineView → State
 state_of m = last_state (tracks_of m) m.entries
+
+-- which tracks are ready in that state
+abbrev pub ready_in : MachineView → ℕ → Bool
+ready_in m t = is_ready (tracks_of m) (state_of m) t
 
 -- the histories of a trace differ by one more event, of track t, with its reply
 pub record IsEvent (trace : Trace) (old new : List Entry) (t : ℕ) (step : Step) : Type 0 where

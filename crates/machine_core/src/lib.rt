@@ -22,6 +22,7 @@
 
 mod held;
 mod machine;
+mod picks;
 mod schedule;
 
 pub use block_store::Spot;

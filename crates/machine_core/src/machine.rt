@@ -1,6 +1,7 @@
 ghost use Rattle.std.specs.Prelude.{◌≡◌, ◌<◌, ◌^◌, ℕ, true, false, [], length, replicate, IfOk, IfSome, IfNone, OnErr};
 
 use crate::held::Held;
+use crate::picks::PicksLeft;
 use crate::schedule::{first_ready_at, is_ready_at, next_op, settle};
 use block_store::{Answer, Spot, Store};
 use mem_base::{Ask, Entry, Grant, History, List, Step, Texts, Totals, Trace, TrackId};
@@ -16,6 +17,7 @@ pub struct Machine {
     held: Held,
     done: Vec<u32>,
     faulted: bool,
+    picks: PicksLeft,
 }
 
 // As many zeros as there are tracks.
@@ -30,11 +32,13 @@ impl Model for Machine {
 
     ghost Value = { MachineView };
 
+    ghost use Rattle.machine_core.specs.Picks.{left_of};
     ghost use Rattle.machine_core.specs.Stands.{Stands};
 
     ghost view = { λ a. record {
       trace = a.trace;
       entries = a.history.entries;
+      picks = left_of a.trace.picks a.picks;
       arenas = a.held.store.arenas;
       raws = a.held.store.raws;
       pieces = a.held.store.pieces;
@@ -46,20 +50,23 @@ impl Model for Machine {
 impl Machine {
     ghost use Rattle.event_model.specs.Events.{is_ready};
     ghost use Rattle.event_model.specs.History.{IsLegal, IsDone, totals_of};
+    ghost use Rattle.event_model.specs.Schedule.{one_by_one, IsFirstReady, Takes};
     ghost use Rattle.trace_model.specs.Known.{IsKnownTrace};
+    ghost use Rattle.trace_model.specs.Plain.{plain};
     ghost use Rattle.mem_base.specs.declared.trace.Side.TheVariants as sides;
     ghost use Rattle.sources.specs.Holder.{Traded};
     ghost use Rattle.domain_api.specs.Held.{AreAskedNothing, AreOut};
     ghost use Rattle.block_store.specs.Sources.{Fails, FailsUnrefused, IsPassedOn};
     ghost use Rattle.block_store.specs.Spots.{AreSpots};
     ghost use Rattle.machine_core.specs.Spots.{living_in};
-    ghost use Rattle.machine_core.specs.View.{tracks_of, state_of, IsEvent, Requests};
+    ghost use Rattle.machine_core.specs.View.{tracks_of, state_of, ready_in, IsEvent, Requests};
 
     /// A machine at the start of a trace. The error is want of memory, and the trace is gone.
     pub fn new(alloc: Global, trace: Trace) -> Result<Machine, AllocError>
         requires { IsKnownTrace trace }
         ensures trace { IfOk result (λ m. m.trace ≡ trace) }
         ensures entries { IfOk result (λ m. m.entries ≡ []) }
+        ensures picks { IfOk result (λ m. m.picks ≡ one_by_one (plain trace).picks) }
         ensures arenas { IfOk result (λ m. m.arenas ≡ []) }
         ensures raws { IfOk result (λ m. m.raws ≡ []) }
     {
@@ -74,6 +81,7 @@ impl Machine {
             held: Held { store, owner: None },
             done,
             faulted: false,
+            picks: PicksLeft::all(),
         })
     }
 
@@ -148,6 +156,7 @@ impl Machine {
             held,
             done: _,
             faulted: _,
+            picks: _,
         } = self;
         let Held { store, owner: _ } = held;
         store.end(arenas, raws);
@@ -164,12 +173,28 @@ impl Machine {
 
     /// The first track that is ready.
     pub fn first_ready(&self) -> Option<TrackId>
-        ensures first { IfSome result (λ t. is_ready (tracks_of self.now) (state_of self.now) t ≡ true) }
-        ensures before { IfSome result (λ t. (u : ℕ)
-            → u < t → is_ready (tracks_of self.now) (state_of self.now) u ≡ false) }
+        ensures first { IfSome result (IsFirstReady (ready_in self.now)) }
         ensures none { IfNone result (IsDone (tracks_of self.now) (state_of self.now)) }
     {
         first_ready_at(&self.trace, self.held.owner, self.done.as_slice())
+    }
+
+    /// The track that the schedule takes for the next event: that of the first pick of a ready track, or
+    /// the first ready track where no such pick is left. That pick and those before it are gone then.
+    /// `None` where no track is ready.
+    pub fn next_track(&mut self) -> Option<TrackId>
+        ensures takes { IfSome result (λ t. Takes (ready_in self.old) self.old.picks t self.new.picks) }
+        ensures none { IfNone result (IsDone (tracks_of self.old) (state_of self.old)) }
+        ensures left { IfNone result (self.new.picks ≡ []) }
+        ensures same { self.new ≡ record self.old { picks = self.new.picks } }
+    {
+        let picked = self
+            .picks
+            .take(&self.trace, self.held.owner, self.done.as_slice());
+        match picked {
+            Some(t) => Some(t),
+            None => first_ready_at(&self.trace, self.held.owner, self.done.as_slice()),
+        }
     }
 
     /// Does the next event of a track that is ready. The error is want of memory: then the machine is as
@@ -187,6 +212,7 @@ impl Machine {
         requires raw { (R.seen raws.old).asked < 2 ^ 63 }
         requires held { AreOut self.old.arenas self.old.raws (A.seen arenas.old) (R.seen raws.old) }
         ensures trace { self.new.trace ≡ self.old.trace }
+        ensures picks { self.new.picks ≡ self.old.picks }
         ensures step { IfOk result (λ step. IsEvent self.old.trace self.old.entries self.new.entries t step) }
         ensures asks_arena { IfOk result (λ step.
             Requests sides.Arena self.old.trace self.old.entries step.entry

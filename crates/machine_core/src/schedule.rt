@@ -10,6 +10,7 @@ ghost use Rattle.trace_model.specs.Plain.{action_of, plain};
 ghost use Rattle.trace_model.specs.Known.{op_at};
 ghost use Rattle.event_model.specs.Effects.{may_do_next};
 ghost use Rattle.event_model.specs.Events.{let_go};
+ghost use Rattle.event_model.specs.Schedule.{IsFirstReady};
 ghost use Rattle.event_model.specs.Replies.{is_fault as is_fault_reply, plain_reply};
 ghost use Rattle.machine_core.specs.Ready.{is_ready_now};
 
@@ -59,11 +60,16 @@ fn may_go_on(owner: Option<TrackId>, t: TrackId, op: &Op) -> bool
     }
 }
 
-/// Whether the track has an operation left, and needs wait for no other.
+/// Whether the track has an operation left, and needs wait for no other; a track that is none has nothing
+/// left.
+#[tactic(auto, using(crate::proofs::StepLemmas::none_past))]
 pub(crate) fn is_ready_at(trace: &Trace, owner: Option<TrackId>, done: &[u32], t: TrackId) -> bool
-    requires { t < length done.now }
+    requires { length done.now ≡ length trace.now.tracks }
     ensures { result ≡ is_ready_now trace.now owner done.now t }
 {
+    if t as usize >= done.len() {
+        return false;
+    }
     match next_op(trace, t, done[t as usize]) {
         Some(op) => may_go_on(owner, t, op),
         None => false,
@@ -74,8 +80,7 @@ pub(crate) fn is_ready_at(trace: &Trace, owner: Option<TrackId>, done: &[u32], t
 pub(crate) fn first_ready_at(trace: &Trace, owner: Option<TrackId>, done: &[u32]) -> Option<TrackId>
     requires tracks { length done.now ≡ length trace.now.tracks }
     requires few { length done.now ≤ 64 }
-    ensures first { IfSome result (λ t. is_ready_now trace.now owner done.now t ≡ true) }
-    ensures before { IfSome result (λ t. (u : ℕ) → u < t → is_ready_now trace.now owner done.now u ≡ false) }
+    ensures first { IfSome result (IsFirstReady (is_ready_now trace.now owner done.now)) }
     ensures none { IfNone result ((t : ℕ) → is_ready_now trace.now owner done.now t ≡ false) }
 {
     for t in 0..done.len() {

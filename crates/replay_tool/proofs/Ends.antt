@@ -47,7 +47,7 @@ module _ (r : Replay) (last : Sources) (arenas raws : List Extent) (none : AreAs
   nearly_then served = nearly_ended r.tracks r.entries arenas raws r.sources r.sources_then last served none arenas_back raws_back
 
   whole_then : RanWhole the_report r → RanWhole the_report after_all
-  whole_then w = record { legal = w.legal; whole = w.whole; written = w.written; served = served_then w.served }
+  whole_then w = record { legal = w.legal; follows = w.follows; whole = w.whole; written = w.written; served = served_then w.served }
 
   broke_then : BrokeInEvent the_report r ⊎ BrokeAtEnd the_report r → BrokeInEvent the_report after_all ⊎ BrokeAtEnd the_report after_all
   broke_then (inl e) = inl (record { earlier = e.earlier; last = e.last; text = e.text; all = e.all; adds = e.adds; written = e.written })
@@ -56,8 +56,8 @@ module _ (r : Replay) (last : Sources) (arenas raws : List Extent) (none : AreAs
   pub gives_back : (s : Status) → ReplayEnds r s → ReplayEnds after_all s
   gives_back Done e = (whole_then e.0, e.1)
   gives_back Faulted e = (whole_then e.0, e.1)
-  gives_back WriteFault e = record { legal = e.legal; broke = broke_then e.broke; served = served_then e.served }
-  gives_back OutOfMemory e = record { legal = e.legal; earlier = e.earlier; later = e.later; all = e.all; few = e.few; written = e.written; served = nearly_then e.served }
+  gives_back WriteFault e = record { legal = e.legal; follows = e.follows; broke = broke_then e.broke; served = served_then e.served }
+  gives_back OutOfMemory e = record { legal = e.legal; follows = e.follows; earlier = e.earlier; later = e.later; all = e.all; few = e.few; written = e.written; served = nearly_then e.served }
   gives_back Usage e = absurd e
   gives_back FaultyLine e = absurd e
   gives_back ReadFault e = absurd e

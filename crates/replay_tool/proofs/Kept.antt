@@ -1,6 +1,5 @@
 -- What a replay keeps from event to event.
-use Rattle.std.proofs.Common.{◌≡◌, inl, inr, ℕ, ◌+◌, ◌<◌, List, [], ◌∷◌, ◌++◌, length, refl, sym, ap, subst, ◌∙◌, append-nil, length-append, slice_get, Option, Some, None, Result, Ok, Err, arith, take}
-use Rattle.std.specs.Io.KnownBytes.{Appends}
+use Rattle.std.proofs.Common.{◌≡◌, inl, inr, ℕ, ◌+◌, ◌<◌, List, [], ◌∷◌, ◌++◌, length, sym, ap, subst, ◌∙◌, append-nil, length-append, slice_get, Result, Ok, Err, arith, take, true, false}
 use Rattle.std.proofs.KnownBytes.{Appends-trans}
 use Rattle.streams.specs.Faults.{raised}
 use Rattle.mem_base.specs.declared.history.Entry.{Entry}
@@ -10,19 +9,20 @@ use Rattle.trace_model.specs.Known.{IsKnownTrace}
 use Rattle.trace_model.specs.Plain.{PlainTrack, plain}
 use Rattle.event_model.specs.Events.{action_after, left_in}
 use Rattle.event_model.specs.History.{opening, last_state, IsLegal, IsWhole}
-use Rattle.event_model.proofs.CallerLemmas.{legal_push}
-use Rattle.event_model.proofs.CallerLemmas.{leaves_less}
+use Rattle.event_model.specs.Schedule.{one_by_one, Follows, FollowsTo, Takes}
+use Rattle.event_model.proofs.CallerLemmas.{follows_push, legal_push, leaves_less, takes_ready}
 use Rattle.report_model.specs.Report.{lines_for, event_text, events_text, summary_text}
 use Rattle.report_model.proofs.CallerLemmas.{one_more}
+use Rattle.extents.specs.Extent.{Extent}
 use Rattle.sources.specs.Holder.{Traded}
 use Rattle.sources.proofs.CallerLemmas.{traded_then}
-use Rattle.machine_core.specs.View.{MachineView, tracks_of, state_of, IsEvent}
+use Rattle.machine_core.specs.View.{MachineView, tracks_of, state_of, ready_in, IsEvent}
 use Rattle.report_text.specs.Texts.{step_text}
 use Rattle.replay_tool.specs.declared.status.Halt.{Halt}
 use Rattle.replay_tool.specs.declared.status.Halt.TheVariants.{WriteFault, OutOfMemory}
 use Rattle.replay_tool.specs.Status.{Tells}
-use Rattle.replay_tool.specs.Replays.{EventStops, ReportStops, ReportEnds, Moment, OneMore, NoneMore, LackedEvent, BrokeEvent, TradedBoth, text_from, replay_between, the_report, RanWhole, RanUntilBroken, RanOut}
-use Rattle.replay_tool.specs.Served.{Served, ServedNearly}
+use Rattle.replay_tool.specs.Replays.{EventStops, ReportStops, ReportEnds, Moment, moment, OneMore, NoneMore, LackedEvent, TradedBoth, text_from, replay_between, the_report, RanWhole, RanUntilBroken, RanOut}
+use Rattle.replay_tool.specs.Served.{Served, ServedNearly, Sources}
 use Rattle.replay_tool.specs.Streams.{Stream, Wrote, BrokeWithin}
 use Rattle.replay_tool.proofs.ServedLaws.{served_more, served_nearly, served_failed}
 
@@ -79,8 +79,59 @@ traded_on a b c first second = record {
   raws = traded_then a.machine.raws b.machine.raws c.machine.raws a.sources.raw b.sources.raw c.sources.raw first.raws second.raws;
 }
 
+-- ---- the schedule
+
+-- a machine's history follows the picks of its trace, and leaves those that the machine has left
+abbrev pub FollowsIts : MachineView → Type 0
+FollowsIts m = FollowsTo (tracks_of m) (plain m.trace).picks m.entries m.picks
+
+-- a machine's history follows the picks of its trace
+abbrev pub FollowsSome : MachineView → Type 0
+FollowsSome m = Follows (tracks_of m) (plain m.trace).picks m.entries
+
+-- the schedule took this track for the event that comes next
+pub record Picked (t : ℕ) (m : MachineView) : Type 0 where
+  pub before : List ℕ
+  pub follows : FollowsTo (tracks_of m) (plain m.trace).picks m.entries before
+  pub takes : Takes (ready_in m) before t m.picks
+
+-- machines that differ in the picks that are left
+module _ (old new : MachineView) (same : new ≡ record old { picks = new.picks }) where
+  pub picked_now : (t : ℕ) → FollowsIts old → Takes (ready_in old) old.picks t new.picks → Picked t new
+  picked_now t follows takes =
+      subst (Picked t) (sym same) (record { before = old.picks; follows = follows; takes = takes })
+
+  pub follows_still : FollowsIts old → FollowsSome new
+  follows_still follows = subst FollowsSome (sym same) (old.picks, follows)
+
+  pub whole_still : IsWhole (tracks_of old) old.entries → IsWhole (tracks_of new) new.entries
+  whole_still whole = subst (λ (m : MachineView). IsWhole (tracks_of m) m.entries) (sym same) whole
+
+  pub left_still : left_in (tracks_of new) (state_of new) ≡ left_in (tracks_of old) (state_of old)
+  left_still = ap (λ (m : MachineView). left_in (tracks_of m) (state_of m)) same
+
+  pub sound_still : (state_of old).faulted ≡ false → (state_of new).faulted ≡ false
+  sound_still sound = ap (λ (m : MachineView). (state_of m).faulted) same ∙ sound
+
+  pub held_still : {A : Type 0} (f : List Extent → List Extent → A → Type 0) (x : A) → f old.arenas old.raws x → f new.arenas new.raws x
+  held_still f x held = subst (λ (m : MachineView). f m.arenas m.raws x) (sym same) held
+
+  pub going_still : (first : Moment) (out : Stream) (sources : Sources) → Going first (moment old out sources) → Going first (moment new out sources)
+  going_still first out sources going =
+      subst (λ (m : MachineView). Going first (moment m out sources)) (sym same) (record {
+        same = going.same;
+        legal = going.legal;
+        written = going.written;
+        served = going.served;
+        traded = record { arenas = going.traded.arenas; raws = going.traded.raws };
+      })
+
+-- the track that the schedule took is ready
+pub picked_ready : (t : ℕ) (m : MachineView) → Picked t m → ready_in m t ≡ true
+picked_ready t m picked = takes_ready (ready_in m) picked.before t m.picks picked.takes
+
 -- one more event: its trace, that its history is legal, and its texts
-module _ (first old new : Moment) (known : IsKnownTrace first.machine.trace) (going : Going first old) (more : OneMore old new) where
+module _ (t : ℕ) (first old new : Moment) (known : IsKnownTrace first.machine.trace) (going : Going first old) (picked : Picked t old.machine) (more : OneMore t old new) where
   abbrev then : List Entry
   then = old.machine.entries ++ more.entry ∷ []
 
@@ -97,7 +148,16 @@ module _ (first old new : Moment) (known : IsKnownTrace first.machine.trace) (go
   served_then : Served (tracks_of new.machine) new.machine.entries first.sources new.sources
   served_then =
       carried (λ (t : List PlainTrack) (es : List Entry). Served t es first.sources new.sources)
-      (served_more old new more first.sources (known_now going known) going.served)
+      (served_more t old new more first.sources (known_now going known) going.served)
+
+  -- the schedule took its track
+  pub follows_more : FollowsIts new.machine
+  follows_more =
+      subst (λ (x : Trace). FollowsTo (plain x).tracks (plain x).picks new.machine.entries new.machine.picks) (sym more.same)
+      (subst (λ (es : List Entry). FollowsTo (tracks_of old.machine) (plain old.machine.trace).picks es new.machine.picks) (sym more.grows)
+      (subst (FollowsTo (tracks_of old.machine) (plain old.machine.trace).picks then) (sym more.picks)
+      (follows_push (tracks_of old.machine) (opening (tracks_of old.machine)) (one_by_one (plain old.machine.trace).picks) old.machine.entries more.entry picked.before old.machine.picks picked.follows
+      (subst (λ (u : ℕ). Takes (ready_in old.machine) picked.before u old.machine.picks) (sym more.track) picked.takes))))
 
   texts_then : events_text (tracks_of old.machine) then ≡ events_text (tracks_of old.machine) old.machine.entries ++ text_from old.machine more.entry
   texts_then = one_more (event_text (tracks_of old.machine)) (tracks_of old.machine) old.machine.entries more.entry
@@ -124,6 +184,7 @@ module _ (first old new : Moment) (known : IsKnownTrace first.machine.trace) (go
   broke_there : BrokeWithin old.out new.out [] (text_from old.machine more.entry) → RanUntilBroken the_report (replay_between first new)
   broke_there front = record {
     legal = legal_more;
+    follows = (new.machine.picks, follows_more);
     broke = inl (record {
       earlier = old.machine.entries;
       last = more.entry;
@@ -141,6 +202,7 @@ module _ (first old new : Moment) (known : IsKnownTrace first.machine.trace) (go
   lacked_text : new.out ≡ old.out → RanOut the_report (replay_between first new)
   lacked_text kept = record {
     legal = legal_more;
+    follows = (new.machine.picks, follows_more);
     earlier = old.machine.entries;
     later = more.entry ∷ [];
     all = more.grows;
@@ -151,7 +213,7 @@ module _ (first old new : Moment) (known : IsKnownTrace first.machine.trace) (go
   }
 
 -- memory ran out in an event, which was not done
-module _ (first old new : Moment) (going : Going first old) (none : NoneMore old new) where
+module _ (t : ℕ) (first old new : Moment) (going : Going first old) (picked : Picked t old.machine) (none : NoneMore old new) where
   -- what holds of the old machine holds of the new one
   unmoved : (P : MachineView → Type 0) → P old.machine → P new.machine
   unmoved P p = subst P (sym none.same) p
@@ -166,6 +228,7 @@ module _ (first old new : Moment) (going : Going first old) (none : NoneMore old
   lacked_event : new.out ≡ old.out → RanOut the_report (replay_between first new)
   lacked_event kept = record {
     legal = unmoved (λ (m : MachineView). IsLegal (tracks_of m) m.entries) going.legal;
+    follows = unmoved FollowsSome (picked.before, picked.follows);
     earlier = new.machine.entries;
     later = [];
     all = sym (append-nil new.machine.entries);
@@ -177,39 +240,40 @@ module _ (first old new : Moment) (going : Going first old) (none : NoneMore old
   }
 
 -- memory ran out, in an event or for its text
-lacked : (first old new : Moment) → IsKnownTrace first.machine.trace → Going first old → LackedEvent old new → RanOut the_report (replay_between first new)
-lacked first old new known going l = elim l.did [
-  | inl none ↦ lacked_event first old new going none l.out
-  | inr more ↦ lacked_text first old new known going more l.out
+lacked : (t : ℕ) (first old new : Moment) → IsKnownTrace first.machine.trace → Going first old → Picked t old.machine → LackedEvent t old new → RanOut the_report (replay_between first new)
+lacked t first old new known going picked l = elim l.did [
+  | inl none ↦ lacked_event t first old new going picked none l.out
+  | inr more ↦ lacked_text t first old new known going picked more l.out
 ]
 
-traded_lacked : (first old new : Moment) → IsKnownTrace first.machine.trace → Going first old → LackedEvent old new → TradedBoth first new
-traded_lacked first old new known going l = elim l.did [
-  | inl none ↦ traded_none first old new going none
-  | inr more ↦ traded_more first old new known going more
+traded_lacked : (t : ℕ) (first old new : Moment) → IsKnownTrace first.machine.trace → Going first old → Picked t old.machine → LackedEvent t old new → TradedBoth first new
+traded_lacked t first old new known going picked l = elim l.did [
+  | inl none ↦ traded_none t first old new going picked none
+  | inr more ↦ traded_more t first old new known going picked more
 ]
 
 -- the event that stopped a replay
-pub event_stops : (first old new : Moment) (h : Halt) → IsKnownTrace first.machine.trace → Going first old → EventStops old new h → ReportStops (replay_between first new) h
-event_stops first old new WriteFault known going e = broke_there first old new known going e.more e.front
-event_stops first old new OutOfMemory known going e = lacked first old new known going e
+pub event_stops : (t : ℕ) (first old new : Moment) (h : Halt) → IsKnownTrace first.machine.trace → Going first old → Picked t old.machine → EventStops t old new h → ReportStops (replay_between first new) h
+event_stops t first old new WriteFault known going picked e = broke_there t first old new known going picked e.more e.front
+event_stops t first old new OutOfMemory known going picked e = lacked t first old new known going picked e
 
-pub event_trades : (first old new : Moment) (h : Halt) → IsKnownTrace first.machine.trace → Going first old → EventStops old new h → TradedBoth first new
-event_trades first old new WriteFault known going e = traded_more first old new known going e.more
-event_trades first old new OutOfMemory known going e = traded_lacked first old new known going e
+pub event_trades : (t : ℕ) (first old new : Moment) (h : Halt) → IsKnownTrace first.machine.trace → Going first old → Picked t old.machine → EventStops t old new h → TradedBoth first new
+event_trades t first old new WriteFault known going picked e = traded_more t first old new known going picked e.more
+event_trades t first old new OutOfMemory known going picked e = traded_lacked t first old new known going picked e
 
 -- ---- the summary
 
-module _ (first last : Moment) (out : Stream) (going : Going first last) (whole : IsWhole (tracks_of last.machine) last.machine.entries) where
+module _ (first last : Moment) (out : Stream) (going : Going first last) (follows : FollowsSome last.machine) (whole : IsWhole (tracks_of last.machine) last.machine.entries) where
   abbrev ended : Moment
   ended = record last { out = out }
 
   wrote_summary : Wrote last.out out (summary_text (tracks_of last.machine) last.machine.entries) → RanWhole the_report (replay_between first ended)
-  wrote_summary text = record { legal = going.legal; whole = whole; written = wrote_both first.out last.out out _ _ going.written text; served = going.served }
+  wrote_summary text = record { legal = going.legal; follows = follows; whole = whole; written = wrote_both first.out last.out out _ _ going.written text; served = going.served }
 
   broke_summary : BrokeWithin last.out out [] (summary_text (tracks_of last.machine) last.machine.entries) → RanUntilBroken the_report (replay_between first ended)
   broke_summary front = record {
     legal = going.legal;
+    follows = follows;
     broke = inr (record { whole = whole; written = wrote_front first.out last.out out _ _ going.written front });
     served = going.served;
   }
@@ -217,6 +281,7 @@ module _ (first last : Moment) (out : Stream) (going : Going first last) (whole 
   lacked_summary : out ≡ last.out → RanOut the_report (replay_between first ended)
   lacked_summary kept = record {
     legal = going.legal;
+    follows = follows;
     earlier = last.machine.entries;
     later = [];
     all = sym (append-nil last.machine.entries);

@@ -218,9 +218,9 @@ module _ {S : Type 0} (side : Side) where
 
 -- ---- both sides
 
-pub served_more : (old new : Moment) (more : OneMore old new) (first : Sources) → IsKnownTrace old.machine.trace → Served (tracks_in old.machine) old.machine.entries first old.sources
+pub served_more : (t : ℕ) (old new : Moment) (more : OneMore t old new) (first : Sources) → IsKnownTrace old.machine.trace → Served (tracks_in old.machine) old.machine.entries first old.sources
     → Served (tracks_in old.machine) (old.machine.entries ++ more.entry ∷ []) first new.sources
-served_more old new more first known served = record {
+served_more t old new more first known served = record {
   arenas = on_more sides.Arena old.machine.trace old.machine.entries more.entry old.machine.arenas new.machine.arenas first.arenas old.sources.arenas new.sources.arenas known more.next served.arenas more.arenas;
   raw = on_more sides.Raw old.machine.trace old.machine.entries more.entry old.machine.raws new.machine.raws first.raw old.sources.raw new.sources.raw known more.next served.raw more.raws;
 }

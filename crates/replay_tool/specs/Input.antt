@@ -1,5 +1,5 @@
 -- What became of the input.
-use Rattle.std.specs.Prelude.{◌≡◌, ℕ, ◌≤◌, List, length, IfSome, Err}
+use Rattle.std.specs.Prelude.{◌≡◌, ℕ, IfSome, Err}
 use Rattle.std.specs.Io.KnownBytes.{IsAtEnd}
 use Rattle.streams.specs.Moves.{GaveWithin, GavePast}
 use Rattle.mem_base.specs.declared.limits.TheConstants.{MAX_INPUT}

@@ -1,5 +1,5 @@
 -- What `run` promises.
-use Rattle.std.specs.Prelude.{◌≡◌, ◌⊎◌, ℕ, ◌<◌, ◌≤◌, Bool, true, false, List, length, Some, Err}
+use Rattle.std.specs.Prelude.{◌≡◌, ◌⊎◌, ℕ, ◌<◌, ◌≤◌, true, false, List, length, Some, Err}
 use Rattle.streams.specs.Moves.{IsToldPast}
 use Rattle.mem_base.specs.declared.limits.TheConstants.{MAX_INPUT}
 use Rattle.trace_model.specs.declared.cause.TraceCause.{TraceCause}

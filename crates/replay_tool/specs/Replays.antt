@@ -2,9 +2,10 @@
 use Rattle.std.specs.Prelude.{◌≡◌, ◌⊎◌, ℕ, ◌+◌, ◌≤◌, true, false, List, [], ◌∷◌, ◌++◌, length, if◌then◌else◌, Result, Ok, Err}
 use Rattle.mem_base.specs.declared.history.Entry.{Entry}
 use Rattle.mem_base.specs.declared.trace.Side.TheVariants as sides
-use Rattle.trace_model.specs.Plain.{PlainTrack}
+use Rattle.trace_model.specs.Plain.{PlainTrack, plain}
 use Rattle.event_model.specs.State.{State}
 use Rattle.event_model.specs.History.{IsNext, IsLegal, IsWhole, last_state}
+use Rattle.event_model.specs.Schedule.{Follows}
 use Rattle.report_model.specs.Report.{event_text, events_text, summary_text}
 use Rattle.sources.specs.Holder.{Traded}
 use Rattle.block_store.specs.Sources.{Fails, FailsUnrefused, IsPassedOn}
@@ -27,9 +28,11 @@ moment machine out sources = record { machine = machine; out = out; sources = so
 
 -- ---- one event
 
--- the machine has done one more event, and the sources answered its requests
-pub record OneMore (old new : Moment) : Type 0 where
+-- the machine has done one more event, of track t, and the sources answered its requests
+pub record OneMore (t : ℕ) (old new : Moment) : Type 0 where
   pub entry : Entry
+  pub track : entry.track ≡ t
+  pub picks : new.machine.picks ≡ old.machine.picks
   pub next : IsNext (tracks_of old.machine) (state_of old.machine) entry
   pub same : new.machine.trace ≡ old.machine.trace
   pub grows : new.machine.entries ≡ old.machine.entries ++ entry ∷ []
@@ -48,29 +51,29 @@ abbrev pub text_from : MachineView → Entry → List ℕ
 text_from old entry = event_text (tracks_of old) (length old.entries + 1) (state_of old) entry
 
 -- one more event was done, and its text was written
-pub record WroteEvent (old new : Moment) : Type 0 where
-  pub more : OneMore old new
+pub record WroteEvent (t : ℕ) (old new : Moment) : Type 0 where
+  pub more : OneMore t old new
   pub text : Wrote old.out new.out (text_from old.machine more.entry)
 
 -- one more event was done, and a write failed within its text
-pub record BrokeEvent (old new : Moment) : Type 0 where
-  pub more : OneMore old new
+pub record BrokeEvent (t : ℕ) (old new : Moment) : Type 0 where
+  pub more : OneMore t old new
   pub front : BrokeWithin old.out new.out [] (text_from old.machine more.entry)
 
 -- memory ran out in the event, or for its text, of which nothing was written
-pub record LackedEvent (old new : Moment) : Type 0 where
-  pub did : NoneMore old new ⊎ OneMore old new
+pub record LackedEvent (t : ℕ) (old new : Moment) : Type 0 where
+  pub did : NoneMore old new ⊎ OneMore t old new
   pub out : new.out ≡ old.out
 
--- how an event was given up
-abbrev pub EventStops : Moment → Moment → Halt → Type 0
-EventStops old new halt.WriteFault = BrokeEvent old new
-EventStops old new halt.OutOfMemory = LackedEvent old new
+-- how an event of track t was given up
+abbrev pub EventStops : ℕ → Moment → Moment → Halt → Type 0
+EventStops t old new halt.WriteFault = BrokeEvent t old new
+EventStops t old new halt.OutOfMemory = LackedEvent t old new
 
--- how an event ended
-abbrev pub EventEnds : {T : Type 0} → Moment → Moment → Result T Halt → Type 0
-EventEnds old new (Ok done) = WroteEvent old new
-EventEnds old new (Err why) = EventStops old new why
+-- how an event of track t ended
+abbrev pub EventEnds : {T : Type 0} → ℕ → Moment → Moment → Result T Halt → Type 0
+EventEnds t old new (Ok done) = WroteEvent t old new
+EventEnds t old new (Err why) = EventStops t old new why
 
 -- the machine traded regions with the sources, and nothing else came or went
 pub record TradedBoth (old new : Moment) : Type 0 where
@@ -88,9 +91,10 @@ pub record Printing : Type 0 where
 abbrev pub the_report : Printing
 the_report = record { events = events_text; end = summary_text }
 
--- the events that were done of these tracks, and the output and the sources before and after them
+-- the events that were done of these tracks with these picks, and the output and the sources before and after them
 pub record Replay : Type 0 where
   pub tracks : List PlainTrack
+  pub picks : List (ℕ × ℕ)
   pub entries : List Entry
   pub out : Stream
   pub out_then : Stream
@@ -101,6 +105,7 @@ pub record Replay : Type 0 where
 abbrev pub replay_between : Moment → Moment → Replay
 replay_between first last = record {
   tracks = tracks_of last.machine;
+  picks = (plain last.machine.trace).picks;
   entries = last.machine.entries;
   out = first.out;
   out_then = last.out;
@@ -111,6 +116,7 @@ replay_between first last = record {
 -- the events were done to their end and all was printed, and the sources answered just their requests
 pub record RanWhole (p : Printing) (r : Replay) : Type 0 where
   pub legal : IsLegal r.tracks r.entries
+  pub follows : Follows r.tracks r.picks r.entries
   pub whole : IsWhole r.tracks r.entries
   pub written : Wrote r.out r.out_then (p.events r.tracks r.entries ++ p.end r.tracks r.entries)
   pub served : Served r.tracks r.entries r.sources r.sources_then
@@ -132,12 +138,14 @@ pub record BrokeAtEnd (p : Printing) (r : Replay) : Type 0 where
 -- a write failed within a text, and nothing was done after it
 pub record RanUntilBroken (p : Printing) (r : Replay) : Type 0 where
   pub legal : IsLegal r.tracks r.entries
+  pub follows : Follows r.tracks r.picks r.entries
   pub broke : BrokeInEvent p r ⊎ BrokeAtEnd p r
   pub served : Served r.tracks r.entries r.sources r.sources_then
 
 -- memory ran out, and the whole texts of all events were written, but perhaps of the last
 pub record RanOut (p : Printing) (r : Replay) : Type 0 where
   pub legal : IsLegal r.tracks r.entries
+  pub follows : Follows r.tracks r.picks r.entries
   pub earlier : List Entry
   pub later : List Entry
   pub all : r.entries ≡ earlier ++ later

@@ -1,18 +1,17 @@
 -- A run of the command: its words, its streams and its sources before and after, and its outcome.
-use Rattle.std.specs.Prelude.{◌≡◌, ◌⊎◌, ℕ, Bool, true, List, [], Some, ◌≤◌}
+use Rattle.std.specs.Prelude.{◌≡◌, ℕ, Bool, true, List, []}
 use Rattle.mem_base.specs.declared.history.Entry.{Entry}
 use Rattle.trace_model.specs.Plain.{PlainTrace}
 use Rattle.event_model.specs.History.{last_state, EndsInFault}
 use Rattle.replay_tool.specs.declared.refusal.Refusal.{Refusal}
 use Rattle.replay_tool.specs.declared.refusal.Refusal.TheVariants.{Usage, FaultyLine, ReadFault, TooLong}
 use Rattle.replay_tool.specs.declared.status.Status.{Status}
-use Rattle.replay_tool.specs.declared.status.Status.TheVariants as status
 use Rattle.replay_tool.specs.Input.{IsTrace, HasFaultyLine, HadReadFault, IsTooLong, GaveInBounds}
 use Rattle.replay_tool.specs.Refusals.{line_of}
 use Rattle.replay_tool.specs.Replays.{Replay, RanWhole, RanUntilBroken, RanOut, the_report}
 use Rattle.replay_tool.specs.Served.{Sources, shaped}
 use Rattle.replay_tool.specs.Status.{number_of}
-use Rattle.replay_tool.specs.Streams.{Stream, Wrote, BrokeWithin, Broke}
+use Rattle.replay_tool.specs.Streams.{Stream, Wrote, BrokeWithin}
 use Rattle.replay_tool.specs.Words.{AsksReplay}
 
 -- all that a run works on, at one moment
@@ -81,6 +80,7 @@ pub record Accepted (r : Run) (trace : PlainTrace) : Type 0 where
 abbrev pub replay_of : Run → PlainTrace → Replay
 replay_of r trace = record {
   tracks = trace.tracks;
+  picks = trace.picks;
   entries = r.entries;
   out = r.before.out;
   out_then = r.after.out;

@@ -77,6 +77,7 @@ fn replay<A: ArenaSource, R: RawSource, O: Sink>(
     requires apart { AreDisjoint (A.seen arenas.old).window (R.seen raw.old).window }
     ensures ends { ReplayEnds (record {
       tracks = (plain trace).tracks;
+      picks = (plain trace).picks;
       entries = result.history.entries;
       out = stream (O.written out.old) (O.faults out.old);
       out_then = stream (O.written out.new) (O.faults out.new);

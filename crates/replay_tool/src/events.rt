@@ -1,14 +1,16 @@
 //! The events of a replay, one after another, and what is printed of each.
 //!
-//! The machine does an event, its text is put together in one buffer that is used again, and the text
+//! Before each event the machine is asked which track the schedule takes. It does the event of that track, its text is put together in one buffer that is used again, and the text
 //! is written before the next event is done. So whatever ends the replay, what was written is the
 //! texts of the first events, in their order, and at most a part of one text behind them.
 
 ghost use Rattle.std.specs.Prelude.{◌≡◌, ◌<◌, ◌^◌, [], true, false, IfSome, IfNone};
 ghost use Rattle.event_model.specs.Events.{is_ready};
 ghost use Rattle.event_model.specs.History.{IsWhole};
+ghost use Rattle.event_model.specs.Schedule.{one_by_one, Takes};
+ghost use Rattle.trace_model.specs.Plain.{plain};
 ghost use Rattle.report_model.specs.Report.{summary_text};
-ghost use Rattle.machine_core.specs.View.{tracks_of, state_of};
+ghost use Rattle.machine_core.specs.View.{tracks_of, state_of, ready_in};
 ghost use Rattle.domain_api.specs.Held.{AreOut};
 ghost use Rattle.replay_tool.specs.Replays.{moment, replay_between, status_at, EventEnds, ReportEnds, TradedBoth};
 ghost use Rattle.replay_tool.specs.Served.{both};
@@ -37,7 +39,7 @@ fn one_event<A: ArenaSource, R: RawSource, O: Sink>(
     requires arena { (A.seen arenas.old).asked < 2 ^ 63 }
     requires raw { (R.seen raws.old).asked < 2 ^ 63 }
     requires held { AreOut machine.old.arenas machine.old.raws (A.seen arenas.old) (R.seen raws.old) }
-    ensures ends { EventEnds
+    ensures ends { EventEnds t
         (moment machine.old (stream (O.written out.old) (O.faults out.old))
         (both (A.seen arenas.old) (R.seen raws.old)))
         (moment machine.new (stream (O.written out.new) (O.faults out.new))
@@ -53,16 +55,17 @@ fn one_event<A: ArenaSource, R: RawSource, O: Sink>(
     Ok(())
 }
 
-// The track that does the next event: none once a fault has come.
-fn next_track(machine: &Machine) -> Option<TrackId>
-    ensures ready { IfSome result (λ t. is_ready (tracks_of machine.now) (state_of machine.now) t ≡ true) }
-    ensures no_fault { IfSome result (λ t. (state_of machine.now).faulted ≡ false) }
-    ensures none { IfNone result (IsWhole (tracks_of machine.now) machine.now.entries) }
+// The track that the schedule takes for the next event: none once a fault has come.
+fn next_track(machine: &mut Machine) -> Option<TrackId>
+    ensures takes { IfSome result (λ t. Takes (ready_in machine.old) machine.old.picks t machine.new.picks) }
+    ensures no_fault { IfSome result (λ t. (state_of machine.old).faulted ≡ false) }
+    ensures none { IfNone result (IsWhole (tracks_of machine.old) machine.old.entries) }
+    ensures same { machine.new ≡ record machine.old { picks = machine.new.picks } }
 {
     if machine.faulted() {
         return None;
     }
-    machine.first_ready()
+    machine.next_track()
 }
 
 /// The status of a replay that was done to its end.
@@ -99,6 +102,7 @@ pub fn write_report<A: ArenaSource, R: RawSource, O: Sink>(
     out: &mut O,
 ) -> Result<(), Halt>
     requires start { machine.old.entries ≡ [] }
+    requires picks { machine.old.picks ≡ one_by_one (plain machine.old.trace).picks }
     requires arena { (A.seen arenas.old).asked < 2 ^ 62 }
     requires raw { (R.seen raws.old).asked < 2 ^ 62 }
     requires held { AreOut machine.old.arenas machine.old.raws (A.seen arenas.old) (R.seen raws.old) }

@@ -1,6 +1,5 @@
 -- A table that grows changes no number's text.
-use Rattle.std.proofs.Common.{◌≡◌, ℕ, zero, suc, ◌+◌, ◌<◌, ◌≤◌, List, [], ◌∷◌, ◌++◌, length, slice_get, Option, Some, refl, sym, ap, ◌∙◌, arith, length-append, append-nil, subst, map, Bool, true, false, ◌||◌, cond}
-use Rattle.std.specs.Prelude.{unwrap_or}
+use Rattle.std.proofs.Common.{◌≡◌, ℕ, ◌+◌, ◌≤◌, List, [], ◌∷◌, ◌++◌, length, slice_get, Some, refl, sym, ap, ◌∙◌, arith, length-append, append-nil, subst, map, Bool, true, false, ◌||◌, cond}
 use Rattle.std.specs.List.{AllByRecursion, list_any}
 use Rattle.std.specs.Str.{bytes_eq}
 use Rattle.std.proofs.lemmas.Option.{slice_get_within}
@@ -11,7 +10,7 @@ use Rattle.mem_base.specs.declared.trace.Op.{Op}
 use Rattle.mem_base.specs.declared.trace.Op.TheVariants.{Heap}
 use Rattle.mem_base.specs.Name.{Name}
 use Rattle.trace_model.specs.Plain.{action_of, is_report, tracks_of}
-use Rattle.trace_model.specs.Known.{IsKnown, IsKnownOp}
+use Rattle.trace_model.specs.Known.{IsKnown}
 use Rattle.trace_model.proofs.CallerLemmas.{actions_stay, known_stays, ops_stay, text_stays}
 use Rattle.trace_reader.specs.Progress.{Extends, IsKnownTrack, is_report_op}
 

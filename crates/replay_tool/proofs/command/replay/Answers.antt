@@ -4,7 +4,9 @@ use Rattle.extents.specs.Extent.{Extent}
 use Rattle.sources.specs.Holder.{Traded}
 use Rattle.sources.specs.Source.{ArenaShape, SourceView}
 use Rattle.sources.proofs.CallerLemmas.{traded_then}
+use Rattle.mem_base.specs.declared.trace.Trace.{Trace}
 use Rattle.trace_model.specs.Plain.{plain}
+use Rattle.event_model.specs.Schedule.{one_by_one}
 use Rattle.replay_tool.specs.declared.status.Status.{Status}
 use Rattle.replay_tool.specs.Replays.{Replay, ReplayEnds, RanOut, moment, replay_between, the_report}
 use Rattle.replay_tool.specs.Served.{both}
@@ -48,6 +50,7 @@ returns-clause-ends g c =
     let trace_is = c.write_report.ensures.trace ∙ c.in-Ok.ensures.trace in
     subst (λ (r : Replay). ReplayEnds r status) (λ i. record {
       tracks = (plain (trace_is i)).tracks;
+      picks = (plain (trace_is i)).picks;
       entries = sym c.end.ensures.history i;
       out = before;
       out_then = now;
@@ -61,9 +64,10 @@ returns-in_default-clause-ends g c =
     let tracks = (plain c.args.trace).tracks in
     let before = stream (g.O.Sink.written c.args.out.now) (g.O.Sink.faults c.args.out.now) in
     let first = both (g.A.ArenaSource.seen c.shape.new.self) (g.R.RawSource.seen c.shape-2.new.self) in
-    let none : Replay = record { tracks = tracks; entries = []; out = before; out_then = before; sources = first; sources_then = first } in
+    let none : Replay = record { tracks = tracks; picks = (plain c.args.trace).picks; entries = []; out = before; out_then = before; sources = first; sources_then = first } in
     let ran : RanOut the_report none = record {
       legal = tt;
+      follows = (one_by_one (plain c.args.trace).picks, refl);
       earlier = [];
       later = [];
       all = refl;
@@ -74,6 +78,7 @@ returns-in_default-clause-ends g c =
     subst (λ (p : Replay × Status). ReplayEnds p.0 p.1) (λ i. (
       record {
         tracks = tracks;
+        picks = (plain c.args.trace).picks;
         entries = sym c.without_events.ensures.none i;
         out = before;
         out_then = before;
@@ -82,3 +87,7 @@ returns-in_default-clause-ends g c =
       },
       sym c.without_events.ensures.status i,
     )) ran
+
+-- a new machine has all picks of its trace
+pub write_report-requires-clause-picks : goal.write_report-requires-clause-picks
+write_report-requires-clause-picks g c = c.in-Ok.ensures.picks ∙ ap (λ (t : Trace). one_by_one (plain t).picks) (sym c.in-Ok.ensures.trace)

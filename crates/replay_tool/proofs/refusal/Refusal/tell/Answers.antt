@@ -1,4 +1,4 @@
-use Rattle.std.proofs.Common.{refl, sym, ap}
+use Rattle.std.proofs.Common.{sym, ap}
 use Rattle.replay_tool.specs.declared.status.Halt.TheVariants.{WriteFault}
 use Rattle.replay_tool.specs.Refusals.{line_of}
 use Rattle.replay_tool.proofs.Texts.{halt_is, wrote_is, broke_is}
