@@ -19,7 +19,7 @@ use Rattle.arena_set.specs.Set.{SetView, pool_line, pools_of, regions_of, loans_
 use Rattle.arena_set.specs.Calls.{IsAt, IsStarted}
 use Rattle.arena_set.proofs.CallerLemmas.{inside, all_at, part_same, part_removed, flat_push}
 use Rattle.py_heap.specs.Heap.{PoolInRegion}
-use Rattle.py_heap.specs.Kept.{lines_of, sites_of}
+use Rattle.py_heap.specs.Kept.{lines_of, sites_of, region_in}
 
 -- ---- lists made of parts
 
@@ -191,6 +191,13 @@ arena_few a s =
 -- so their number fits
 pub loans_few : (v : SetView) → IsSet v → length (loans_of v.arenas) ≤ 65344 * length v.arenas
 loans_few v s = flat_few IsArena (λ n a. arena_loans a) 65344 1 v.arenas (λ n a h. arena_few a h) s.arenas
+
+-- ---- regions by number
+
+pub region_at : (n : ℕ) (arenas : List (Option ArenaView)) → get_or (map region_in arenas) n None ≡ region_in (get_or arenas n None)
+region_at n [] = refl
+region_at zero (o ∷ arenas) = refl
+region_at (suc n) (o ∷ arenas) = region_at n arenas
 
 -- ---- sites after a change
 

@@ -26,11 +26,11 @@ use Rattle.arena_set.specs.Arena.{ArenaView, pool_loans, block_extent, piece_off
 use Rattle.arena_set.specs.Set.{SetView, pools_of, regions_of, loans_of, usable_of, dry_of, IsSet}
 use Rattle.arena_set.specs.Calls.{IsStarted, CanMend, Mends, GivesPool}
 use Rattle.arena_set.proofs.CallerLemmas.{inside, PieceOf, piece_of}
-use Rattle.py_heap.specs.Heap.{InPool}
-use Rattle.py_heap.specs.Kept.{ClassView, State, no_pools, spot, spots_of, lines_of, sites_of, tables_of, heap_of, class_at, full_in, SameSums, IsKeptState}
+use Rattle.py_heap.specs.Heap.{AreHome, InPool}
+use Rattle.py_heap.specs.Kept.{ClassView, State, no_pools, spot, spots_of, lines_of, sites_of, tables_of, heap_of, region_in, class_at, full_in, SameSums, IsKeptState}
 use Rattle.py_heap.specs.Frees.{IsInPool, TakesBack}
 use Rattle.py_heap.proofs.Search.{get_or_any}
-use Rattle.py_heap.proofs.Arenas.{line_at, line_there, started_there, started_once, arena_at, loan_there, site_there, pool_ground, sites_cover, sites_same}
+use Rattle.py_heap.proofs.Arenas.{region_at, line_at, line_there, started_there, started_once, arena_at, loan_there, site_there, pool_ground, sites_cover, sites_same}
 use Rattle.py_heap.proofs.Lending.{pool_inside, pool_sound, full_tells, not_full_in, lists_at}
 
 -- ---- lists with the same sums
@@ -245,6 +245,20 @@ module _ (old : State) (k : IsKeptState old) (piece : PieceView) (loan : Has (pi
           let e = ap (λ v. tally (full_in d) (lines_of v.arenas)) set_is in omega arith;
     }
 
+    home_again : AreHome piece (heap_of new)
+    home_again =
+        let p = piece_is old.set set1 id piece full empty k.sound_set can mends in
+        let place = ap (λ (e : Extent). e.place) p.is in
+        let base = mends.change.base in
+        let at = mends.now.at in
+        record {
+          arena = id.arena - 1;
+          region = mends.b.region;
+          there = ap (λ (v : SetView). get_or (map region_in v.arenas) (id.arena - 1) None) set_is ∙ (region_at (id.arena - 1) set1.arenas ∙ ap region_in at.there);
+          inside = omega arith;
+          bytes = λ i low lt. ap (λ n. get_or mends.b.region.cells (piece.place - n + i) None) base ∙ mends.bytes i low lt;
+        }
+
     stays_back : TakesBack piece None (heap_of old) (heap_of new)
     stays_back = record {
       freed = record {
@@ -257,6 +271,7 @@ module _ (old : State) (k : IsKeptState old) (piece : PieceView) (loan : Has (pi
         others = unplaced.others;
         regions = inl (back_is, regions_are);
         back = subst (λ v. Removed (piece_extent piece) (loans_of old.set.arenas) (loans_of v.arenas)) (sym set_is) loans;
+        bytes = λ there. home_again;
       };
       regions = regions_are;
     }

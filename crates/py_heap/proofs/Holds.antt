@@ -24,7 +24,7 @@ use Rattle.arena_set.specs.Set.{SetView, pool_line, pools_of, loans_of, regions_
 use Rattle.arena_set.proofs.CallerLemmas.{inside, all_at}
 use Rattle.py_heap.specs.Heap.{InPool, PoolInRegion, PoolHolds, StaysInPool, PoolsHold, ArenasAreRegions, LoansHaveSizes, begins_in, held_extents}
 use Rattle.py_heap.specs.Kept.{State, lines_of, sites_of, tables_of, heap_of, region_in, IsKeptState}
-use Rattle.py_heap.proofs.Arenas.{flat_has, line_at, line_there, started_there, arena_at, pool_ground}
+use Rattle.py_heap.proofs.Arenas.{flat_has, region_at, line_at, line_there, started_there, arena_at, pool_ground}
 use Rattle.py_heap.proofs.Lending.{pool_inside}
 use Rattle.py_heap.proofs.Freeing.{block_at, standing}
 
@@ -103,12 +103,6 @@ lines_sum : (p : ℕ) (v : SetView) → p % 16384 ≡ 0 → IsSet v → tally (b
 lines_sum p v aligned s =
     flat_sums IsArena (begins_in p) (live_at p) (λ n a. arena_loans a) (λ n a. flat (λ k s. pool_line n a.region.base k s ∷ []) 0 a.pools) 1 v.arenas
     (λ i n a there at ar. arena_sum p n a aligned ar) s.arenas
-
--- the region of an arena
-region_at : (n : ℕ) (arenas : List (Option ArenaView)) → get_or (map region_in arenas) n None ≡ region_in (get_or arenas n None)
-region_at n [] = refl
-region_at zero (o ∷ arenas) = refl
-region_at (suc n) (o ∷ arenas) = region_at n arenas
 
 module _ (s : State) (k : IsKeptState s) where
   -- just one pool begins there

@@ -253,6 +253,7 @@ module _ (old : State) (k : IsKeptState old) (piece : PieceView) (id : PoolId) (
         others = (unplaced).others;
         regions = back_by region b.gives.regions b.back_is (λ q e. (b.gives.region q e).0);
         back = subst (λ l. Removed (piece_extent piece) (loans_of old.set.arenas) l) (sym b.loans) loans;
+        bytes = λ there. let none = gone_place (tables_of old) (tables_of new) pool k.kept.orderly.numbers gone in absurd (cc);
       };
       regions = less_regions region (regions_of old.set.arenas) (regions_of set1.arenas) (regions_of new.set.arenas) regions b.gives.regions (λ r e. (b.gives.region r e).1);
     }
