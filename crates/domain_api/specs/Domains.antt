@@ -132,7 +132,7 @@ pub record MayStay (n : ℕ) (block : Guard) (d : DomainsView) : Type 0 where
 abbrev pub MustMove : Letter → ℕ → Guard → DomainsView → Request → Type 0
 MustMove v n block d r =
     (Has (guard_extent block) d.heap.loans × (fits_in_place (guard_extent block).len (need n) ≡ false)
-        × (r ≡ move_request true v n))
+    × (r ≡ move_request true v n))
     ⊎ (Has (guard_extent block) d.raws × (r ≡ move_request false v n))
 
 -- the block got n bytes of data where it lies

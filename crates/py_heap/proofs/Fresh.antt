@@ -95,7 +95,7 @@ module _ (old : State) (k : IsKeptState old) (c : ℕ) (small : c < 32) (none : 
       came =
           let first_come : Inserted (line_at id a2 s) (lines_of old.set.arenas) (lines_of set2.arenas) =
           subst (λ l. Inserted (line_at id a2 s) l (lines_of set2.arenas)) pools1
-              (subst (λ b. Inserted (pool_line id.arena b id.pool s) (pools_of set1.arenas) (lines_of set2.arenas)) (sym starts.change.base) starts.pools) in
+          (subst (λ b. Inserted (pool_line id.arena b id.pool s) (pools_of set1.arenas) (lines_of set2.arenas)) (sym starts.change.base) starts.pools) in
           started_and_lent (tables_of old) (line_at id a2 s) (lines_of set2.arenas) (lines_of set3.arenas) k.kept refl first_come (lent).lines
 
       apart_spots : (x : PoolLine) → Has x (lines_of old.set.arenas) → spot_of x ≢ spot_of y

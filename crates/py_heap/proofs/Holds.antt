@@ -72,16 +72,16 @@ pool_sum p base maker k s aligned stands sound =
       | inl w ↦ rw w.0 (tally_ones (λ o. begins_in p (g o)) (blocks_of s.pool) (λ o h. let b = in_its_pool s o sound h in let e = w.1 in begins_yes p (g o) (omega arith) (omega arith)))
       | inr w ↦ rw w.0 (tally_zero (λ o. begins_in p (g o)) (blocks_of s.pool) (λ o h. let b = in_its_pool s o sound h in begins_no p (g o) (apart (base + at) o stands aligned b w.1)))
     ] where
-  apart : (q o : ℕ) → q % 16384 ≡ 0 → p % 16384 ≡ 0 → (48 ≤ o) × (o + size_of s.pool ≤ 16384) → q ≢ p → (q + o < p) ⊎ (p + 16384 ≤ q + o)
-  apart q o whole whole_p b other = elim (leb_tells p q) [
-    | inl v ↦ let le = v.1 in let low = b.0 in let high = b.1 in inr (far p q o le whole whole_p other)
-    | inr v ↦ let lt = v.1 in let low = b.0 in let high = b.1 in inl (near p q o (omega arith) (omega arith) whole whole_p)
-  ] where
-    far : (p q o : ℕ) → p ≤ q → q % 16384 ≡ 0 → p % 16384 ≡ 0 → q ≢ p → p + 16384 ≤ q + o
-    far p q o le whole whole_p other = elim (leb_tells q p) [ inl w ↦ absurd (other (let ge = w.1 in omega arith)) | inr w ↦ let gt = w.1 in omega arith ]
+      apart : (q o : ℕ) → q % 16384 ≡ 0 → p % 16384 ≡ 0 → (48 ≤ o) × (o + size_of s.pool ≤ 16384) → q ≢ p → (q + o < p) ⊎ (p + 16384 ≤ q + o)
+      apart q o whole whole_p b other = elim (leb_tells p q) [
+        | inl v ↦ let le = v.1 in let low = b.0 in let high = b.1 in inr (far p q o le whole whole_p other)
+        | inr v ↦ let lt = v.1 in let low = b.0 in let high = b.1 in inl (near p q o (omega arith) (omega arith) whole whole_p)
+      ] where
+        far : (p q o : ℕ) → p ≤ q → q % 16384 ≡ 0 → p % 16384 ≡ 0 → q ≢ p → p + 16384 ≤ q + o
+        far p q o le whole whole_p other = elim (leb_tells q p) [ inl w ↦ absurd (other (let ge = w.1 in omega arith)) | inr w ↦ let gt = w.1 in omega arith ]
 
-    near : (p q o : ℕ) → q < p → o < 16384 → q % 16384 ≡ 0 → p % 16384 ≡ 0 → q + o < p
-    near p q o lt small whole whole_p = omega arith
+        near : (p q o : ℕ) → q < p → o < 16384 → q % 16384 ≡ 0 → p % 16384 ≡ 0 → q + o < p
+        near p q o lt small whole whole_p = omega arith
 
 -- a pool begins at a multiple of its size
 stands_whole : (base k : ℕ) → (base + pool_offset base k) % 16384 ≡ 0
@@ -163,7 +163,7 @@ module _ (s : State) (k : IsKeptState s) where
         lent = λ o h.
             let e : Extent = block_extent t.a.region.base t.a.region.maker (pool_offset t.a.region.base t.id.pool) (size_of t.s.pool) o in
             let loan : Has e (loans_of s.set.arenas) = flat_has (λ n a. arena_loans a) 1 (t.id.arena - 1) t.id.arena s.set.arenas t.a e (omega arith) t.started.at.there
-                (flat_has (pool_loans t.a.region.base t.a.region.maker) 0 t.id.pool t.id.pool t.a.pools t.s e (omega arith) t.started.there (has-map _ o (blocks_of t.s.pool) h)) in
+            (flat_has (pool_loans t.a.region.base t.a.region.maker) 0 t.id.pool t.id.pool t.a.pools t.s e (omega arith) t.started.there (has-map _ o (blocks_of t.s.pool) h)) in
             let len = ap size_of_class class_is in
             subst (λ (d : Extent). Has d (loans_of s.set.arenas)) (λ i. record { place = stands i + o; len = len i; maker = t.a.region.maker }) loan;
       }

@@ -22,7 +22,10 @@ mod shell;
 #[cfg(test)]
 mod tests;
 
-pub use laws::{bytes_after_a_write, home_after_a_carve, home_after_a_write, lent_beside_a_run, word_after_a_write};
+pub use laws::{
+    bytes_after_a_write, home_after_a_carve, home_after_a_write, lent_beside_a_run,
+    word_after_a_write,
+};
 pub use maker::Maker;
 pub use piece::Piece;
 pub use region::Region;

@@ -68,7 +68,7 @@ returns-in-Some-clause-held g c =
     let raws = g.R.RawSource.seen c.args.raws.now in let h = c.self.inside.heap in let rs = c.self.inside.raw in
     let held = own_held h rs c.args.self.now c.self.view_is arenas raws c.requires.held in
     let now_held = raw_held h rs c.args.self.now c.self.view_is arenas raws c.requires.held c.free.new.self _ c.free.ensures.traded
-        (within_fewer _ rs c.free.new.self raws.window held.raws_in c.free.ensures.back) in
+    (within_fewer _ rs c.free.new.self raws.window held.raws_in c.free.ensures.back) in
     subst (λ (now : HeapView). AreHeld (record { heap = now; raws = c.free.new.self }) (g.A.ArenaSource.seen c.give.new.arenas) (g.R.RawSource.seen c.free.new.raws)) (sym c.in-Some.ensures.other.1)
     (subst (λ (seen : SourceView ArenaShape). AreHeld (record { heap = h; raws = c.free.new.self }) seen (g.R.RawSource.seen c.free.new.raws)) (sym c.in-Some.ensures.other.2) now_held)
 

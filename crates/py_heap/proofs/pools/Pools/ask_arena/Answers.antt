@@ -34,8 +34,7 @@ returns-in-Some-clause-served g c =
 pub give-requires : goal.give-requires
 give-requires g c =
     let before = g.A.ArenaSource.seen c.args.arenas.now in let mid = g.A.ArenaSource.seen c.ask.new.self in
-    let e = c.in-Ok.ensures in let same = c.in-Err.ensures.left.0 in
-    (
+    let e = c.in-Ok.ensures in let same = c.in-Err.ensures.left.0 in (
       subst (λ (r : RegionView). Has (region_extent r) mid.out) (sym same) (has_new (region_extent c.in-Ok.region) before.out mid.out e.granted.added),
       subst (λ (r : RegionView). AllHome r.cells) (sym same) e.granted.home,
     )
