@@ -30,9 +30,10 @@ pub chain_kept : (old new : List (Option ℕ)) (base : ℕ) (ks : List ℕ) → 
 chain_kept old new base [] long inside same c = tt
 chain_kept old new base (k ∷ ks) long inside same c =
     let here : 1 ≤ times k (k ∷ ks) = (let t = times-here k ks in omega arith) in
-    let fits = inside k here in
-    (word_same old new (pool_offset base k + 16) long (omega arith) (λ i lt. same k (pool_offset base k + 16 + i) here (omega arith, omega arith)) ∙ c.0,
-    chain_kept old new base ks long (λ j t. inside j (omega arith)) (λ j i t r. same j i (omega arith) r) c.1)
+    let fits = inside k here in (
+      word_same old new (pool_offset base k + 16) long (omega arith) (λ i lt. same k (pool_offset base k + 16 + i) here (omega arith, omega arith)) ∙ c.0,
+      chain_kept old new base ks long (λ j t. inside j (omega arith)) (λ j i t r. same j i (omega arith) r) c.1,
+    )
 
 -- no pool begins at 0
 no_first : (base : ℕ) (ks : List ℕ) → 1 ≤ base → 0 ≡ first_place base ks → ks ≡ []
