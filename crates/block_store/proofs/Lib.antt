@@ -1,3 +1,4 @@
+mod ChangeLemmas
 mod CountLemmas
 mod EndLemmas
 mod HomeLemmas

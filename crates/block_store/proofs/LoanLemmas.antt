@@ -82,7 +82,7 @@ module _ (old new : DomainsView) (arenas : Arenas) (raws : Raws) (sound : AreSou
 
   -- ---- a block goes
 
-  gone_is : (g : Guard) → IsGivenUp g old new → Removed (guard_extent g) (loans_of old) (loans_of new)
+  pub gone_is : (g : Guard) → IsGivenUp g old new → Removed (guard_extent g) (loans_of old) (loans_of new)
   gone_is g gone = elim gone [
     | inl small ↦
         let less : Removed (guard_extent g) old.heap.loans new.heap.loans = subst (λ (e : Extent). Removed e old.heap.loans new.heap.loans) small.there small.freed.back in

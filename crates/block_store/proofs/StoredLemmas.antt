@@ -3,7 +3,7 @@ use Rattle.std.proofs.Common.{◌≡◌, ℕ, zero, suc, ◌+◌, ◌<◌, ◌�
 use Rattle.std.specs.Option.{option_map}
 use Rattle.std.specs.Prelude.{◌%◌, ◌==◌, if◌then◌else◌, IsSome}
 use Rattle.std.proofs.lemmas.Bool.Decides.{eqb_tells}
-use Rattle.std.proofs.lemmas.List.{get_or-set_same, get_or-set_other, set-get_or}
+use Rattle.std.proofs.lemmas.List.{get_or-set_same, get_or-set_other, length-set, set-get_or}
 use Rattle.std.specs.Int.{to_be_bytes, w64}
 use Rattle.block_model.specs.Block.{image_of, size_of}
 use Rattle.extents.specs.Extent.{Extent, AreApart, covers}
@@ -107,6 +107,45 @@ stored_fewer slots loans fewer i g stored lt is gone apart =
       ];
     }
 
+-- a block h comes, and then the block g of a slot goes: h takes its slot
+pub stored_moved : (slots : List Slot) (loans between now : List Extent) (i : ℕ) (g h : Guard) → IsStored slots loans → i < length slots → at slots i ≡ Some g
+    → Inserted (guard_extent h) loans between → AreApart between → Removed (guard_extent g) between now → AreApart now → h.place % 16 ≡ 0 → IsStored (set (set slots i None) i (Some h)) now
+stored_moved slots loans between now i g h stored lt is added middle gone apart aligned =
+    let e = guard_extent h in
+    let d = guard_extent g in
+    let rest = set slots i None in
+    let long : i < length rest = omega (arith, lt, length-set slots i no_slot) in
+    let free = get_or-set_same slots i None None lt in
+    let less = fewer_extents slots i g is in
+    let more = more_extents rest i h long free in
+    let both : AllIn (e ∷ extents_of slots) between = all_in_more e (extents_of slots) (e ∷ extents_of slots) loans between (inserted_first e (extents_of slots)) added stored.lent in
+    let own : AreApart (e ∷ extents_of slots) = λ x. omega (arith, tally_inserted (covers x) e loans between added, stored.all (covers x), middle x) in
+    let left : AllIn (e ∷ extents_of rest) now =
+    all_in_fewer d (e ∷ extents_of slots) (e ∷ extents_of rest) between now (some_bytes g) own (inserted_under e d (extents_of rest) (extents_of slots) less) gone both in
+    record {
+      lent = λ x has. left x (all_in_more e (extents_of rest) (extents_of (set rest i (Some h))) (extents_of rest) (e ∷ extents_of rest) more (inserted_first e (extents_of rest)) (λ y there. there) x has);
+      all = λ f. omega (
+        arith,
+        tally_inserted f e (extents_of rest) (extents_of (set rest i (Some h))) more,
+        tally_inserted f d (extents_of rest) (extents_of slots) less,
+        tally_inserted f e loans between added,
+        tally_inserted f d now between gone,
+        stored.all f,
+      );
+      apart = apart;
+      aligned = λ j k there. elim (eqb_tells j i) [
+        | inl here ↦
+            let same : Some h ≡ Some k = sym (get_or-set_same rest i (Some h) None long) ∙ ap (at (set rest i (Some h))) (sym here.1) ∙ there in
+            let e : h ≡ k = cc in
+            subst (λ (x : Guard). x.place % 16 ≡ 0) e aligned
+        | inr away ↦
+            stored.aligned j k (sym (get_or-set_other slots i j None None away.1) ∙ sym (get_or-set_other rest i j (Some h) None away.1) ∙ there)
+      ];
+    }
+  where
+    no_slot : Slot
+    no_slot = None
+
 pub stored_same : (slots : List Slot) (loans : List Extent) (i : ℕ) (g h : Guard) → IsStored slots loans → i < length slots → at slots i ≡ Some g → guard_extent h ≡ guard_extent g → IsStored (set slots i (Some h)) loans
 stored_same slots loans i g h stored lt is same =
     let kept : extents_of (set slots i (Some h)) ≡ extents_of slots = same_extents slots i g h is same in
@@ -171,12 +210,12 @@ last_none [] = refl
 last_none (None ∷ ss) = last_none ss
 last_none (Some x ∷ ss) = ap (λ (l : List Extent). guard_extent x ∷ l) (last_none ss)
 
-at_front : (slots : List Slot) (last : Slot) (i : ℕ) (g : Guard) → at slots i ≡ Some g → at (slots ++ last ∷ []) i ≡ Some g
+pub at_front : (slots : List Slot) (last : Slot) (i : ℕ) (g : Guard) → at slots i ≡ Some g → at (slots ++ last ∷ []) i ≡ Some g
 at_front [] last i g is = absurd cc
 at_front (s ∷ ss) last zero g is = is
 at_front (s ∷ ss) last (suc i) g is = at_front ss last i g is
 
-at_last : (slots : List Slot) (last : Slot) → at (slots ++ last ∷ []) (length slots) ≡ last
+pub at_last : (slots : List Slot) (last : Slot) → at (slots ++ last ∷ []) (length slots) ≡ last
 at_last [] last = refl
 at_last (s ∷ ss) last = at_last ss last
 
@@ -205,6 +244,23 @@ stored_pop_none slots loans stored =
       apart = stored.apart;
       aligned = λ i h is. stored.aligned i h (at_front slots None i h is);
     }
+
+-- one more slot, without a block
+pub stored_push_none : (slots : List Slot) (loans : List Extent) → IsStored slots loans → IsStored (slots ++ None ∷ []) loans
+stored_push_none slots loans stored =
+    let same : extents_of (slots ++ None ∷ []) ≡ extents_of slots = last_none slots in
+    record {
+      lent = subst (λ (l : List Extent). AllIn l loans) (sym same) stored.lent;
+      all = λ f. ap (tally f) same ∙ stored.all f;
+      apart = stored.apart;
+      aligned = λ i h is. stored.aligned i h (at_no_last slots i h is);
+    }
+  where
+    at_no_last : (slots : List Slot) (i : ℕ) (h : Guard) → at (slots ++ None ∷ []) i ≡ Some h → at slots i ≡ Some h
+    at_no_last [] zero h is = absurd cc
+    at_no_last [] (suc i) h is = absurd cc
+    at_no_last (s ∷ ss) zero h is = is
+    at_no_last (s ∷ ss) (suc i) h is = at_no_last ss i h is
 
 -- no block at any number
 pub none_in : (n i : ℕ) → at (replicate n None) i ≡ None

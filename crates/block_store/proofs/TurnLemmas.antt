@@ -19,9 +19,10 @@ use Rattle.extents.specs.Extent.{Extent}
 use Rattle.extents.proofs.Lists.{has_new}
 use Rattle.sources.specs.Source.{ArenaShape, SourceView}
 use Rattle.debug_guard.specs.Guard.{Guard, guard_extent, piece_of}
-use Rattle.layout_model.specs.Asks.{FitsRequest, raw_was_asked}
+use Rattle.layout_model.specs.Asks.{FitsRequest, Request, raw_was_asked}
 use Rattle.layout_model.specs.Asks.Request.{NoRequest}
 use Rattle.layout_model.specs.Layout.{Layout, empty_layout}
+use Rattle.layout_model.specs.Place.{place}
 use Rattle.layout_model.specs.Sizes.{class_of, need}
 use Rattle.request_model.specs.Decision.{Decision, too_great, faults, asks, call_fault, request}
 use Rattle.py_heap.specs.Heap.{HeapView, empty_heap}
@@ -71,13 +72,13 @@ none_where (Some g) h = absurd (true≢false h)
 pub emptied : (slots : Slots) (i : ℕ) → get_or slots i None ≡ None → set slots i None ≡ slots
 emptied slots i free = ap (set slots i) (sym free) ∙ set-get_or slots i None
 
-set_twice : (slots : Slots) (i : ℕ) (a b : Option Guard) → set (set slots i a) i b ≡ set slots i b
+pub set_twice : {X : Type 0} (xs : List X) (i : ℕ) (a b : X) → set (set xs i a) i b ≡ set xs i b
 set_twice [] i a b = refl
-set_twice (s ∷ ss) zero a b = refl
-set_twice (s ∷ ss) (suc i) a b = ap (λ (l : Slots). s ∷ l) (set_twice ss i a b)
+set_twice (x ∷ xs) zero a b = refl
+set_twice (x ∷ xs) (suc i) a b = ap (λ (l : List _). x ∷ l) (set_twice xs i a b)
 
 -- a slot that held this, emptied and filled again
-put_again : (slots : Slots) (i : ℕ) (o : Option Guard) → get_or slots i None ≡ o → set (set slots i None) i o ≡ slots
+pub put_again : (slots : Slots) (i : ℕ) (o : Option Guard) → get_or slots i None ≡ o → set (set slots i None) i o ≡ slots
 put_again slots i o is = set_twice slots i None o ∙ ap (set slots i) (sym is) ∙ set-get_or slots i None
 
 -- the block with a number is that of its slot
@@ -168,7 +169,7 @@ room_so : (call : SizedCall) (arena : Grant) (raw : Ask) (l : Layout) (home : Op
     → new_block_turn call arena raw l asks ≡ new_block call home later
 room_so call arena raw l home later is = ap (λ (r : Room). new_block call r.home r.layout) is
 
-length-fresh : (v : Letter) (n b : ℕ) → length (fresh v n b) ≡ n + 16
+pub length-fresh : (v : Letter) (n b : ℕ) → length (fresh v n b) ≡ n + 16
 unfolding body_of
 length-fresh v n b = grind (arith, common_steps)
 
@@ -176,16 +177,29 @@ length-fresh v n b = grind (arith, common_steps)
 region_len : (v : Letter) (n fill : ℕ) (g : Guard) → g.body ≡ fresh v n fill → g.rest ≡ [] → length (piece_of g).bytes ≡ need n
 region_len v n fill g body all = omega (arith, length-append (image_of g.body) g.rest, ap length all, length-image_of g.body, ap length body, length-fresh v n fill)
 
+-- a request for n bytes leads to a pool where one gave the block, and to the raw source where that was asked
+pub record Leads (r : Request) (n : ℕ) (l : Layout) (arena : Grant) (raw : Ask) : Type 0 where
+  pub in_a_pool : (k : ℕ) → raw_was_asked raw ≡ false → (place l (class_of (need n)) arena).pool ≡ Some k
+      → room_for l r arena raw ≡ record { home = Some (in_pool k); layout = (place l (class_of (need n)) arena).layout }
+  pub in_a_region : raw_was_asked raw ≡ true → room_for l r arena raw ≡ record { home = raw_home raw; layout = l }
+
+-- a request for a new block leads so
+pub new_leads : (v : Letter) (n : ℕ) (l : Layout) (arena : Grant) (raw : Ask) → FitsRequest l (request v n) arena raw → Leads (request v n) n l arena raw
+new_leads v n l arena raw fits = record {
+  in_a_pool = λ k quiet gave. room_in_pool l v n arena raw k fits quiet gave;
+  in_a_region = λ asked. room_in_raw l v n arena raw fits asked;
+}
+
 module _ (old new : DomainsView) (arenas : SourceView ArenaShape) (raws : SourceView ℕ) (sound : AreSound new.heap new.raws) (held : AreHeld new arenas raws) where
-  -- where a block that was lent lies
-  record Lies (v : Letter) (n : ℕ) (g : Guard) (asked : Asked) : Type 0 where
+  -- where a block that was lent lies, for this request
+  pub record Lies (r : Request) (n : ℕ) (g : Guard) (asked : Asked) : Type 0 where
     pub home : Home
     pub there : home_at new.heap.places g.place ≡ home
     pub len : length (piece_of g).bytes ≡ len_at home (need n)
-    pub room : room_for old.heap.layout (request v n) asked.arena asked.raw ≡ record { home = Some home; layout = new.heap.layout }
+    pub room : room_for old.heap.layout r asked.arena asked.raw ≡ record { home = Some home; layout = new.heap.layout }
 
-  lies : (v : Letter) (n fill : ℕ) (g : Guard) (asked : Asked) → FitsRequest old.heap.layout (request v n) asked.arena asked.raw → IsLent v n fill g asked old new → Lies v n g asked
-  lies v n fill g asked fits lent = elim lent.lies [
+  pub lies : (r : Request) (v : Letter) (n fill : ℕ) (g : Guard) (asked : Asked) → Leads r n old.heap.layout asked.arena asked.raw → IsLent v n fill g asked old new → Lies r n g asked
+  lies r v n fill g asked leads lent = elim lent.lies [
     | inl small ↦
         let b = small.serves.got.1 in
         let long : 1 ≤ (guard_extent g).len = some_bytes g in
@@ -194,7 +208,7 @@ module _ (old new : DomainsView) (arenas : SourceView ArenaShape) (raws : Source
           there = ap (λ (e : Extent). home_at new.heap.places e.place) (sym small.there)
               ∙ home_of_new (class_of (need n)) asked.arena small.piece old.heap new.heap sound.heap_is b (subst (λ (e : Extent). 1 ≤ e.len) (sym small.there) long);
           len = ap (λ (e : Extent). e.len) (sym small.there) ∙ b.len;
-          room = room_in_pool old.heap.layout v n asked.arena asked.raw b.pool fits (ap raw_was_asked small.raw) b.placed
+          room = leads.in_a_pool b.pool (ap raw_was_asked small.raw) b.placed
               ∙ ap (λ (l : Layout). record { home = Some (in_pool b.pool); layout = l }) (sym small.serves.layout);
         }
     | inr large ↦
@@ -202,7 +216,7 @@ module _ (old new : DomainsView) (arenas : SourceView ArenaShape) (raws : Source
           home = in_raw;
           there = home_of_raw new arenas raws (guard_extent g) sound.heap_is held (has_new (guard_extent g) old.raws new.raws large.lent) (some_bytes g);
           len = region_len v n fill g lent.body large.all;
-          room = room_in_raw old.heap.layout v n asked.arena asked.raw fits (ap raw_was_asked large.raw)
+          room = leads.in_a_region (ap raw_was_asked large.raw)
               ∙ (λ i. record { home = raw_home_is asked.raw large.raw i; layout = sym (ap (λ (h : HeapView). h.layout) large.heap) i });
         }
   ]
@@ -214,7 +228,7 @@ module _ (old new : DomainsView) (arenas : SourceView ArenaShape) (raws : Source
       → IsMade call.letter call.size call.fill locked old new got asked → IsTurn i (sized_by call locked asked) (view_of slots old) (view_of (slots_with slots i got) new) reply
   made_turn slots i call locked (gots.Block g) asked reply store free says is =
       let v = call.letter in let n = call.size in let fill = call.fill in
-      let at = lies v n fill g asked is.1.0 is.1.1 in
+      let at = lies (request v n) v n fill g asked (new_leads v n old.heap.layout asked.arena asked.raw is.1.0) is.1.1 in
       let f = sized_by call locked asked in
       let made : turn_at slots old i f ≡ turn_to (Some (block_made call (fresh v n fill) at.home)) new.heap.layout ok =
       made_is slots old i call locked asked asks free is.0 ∙ room_so call asked.arena asked.raw old.heap.layout (Some at.home) new.heap.layout at.room in
@@ -258,7 +272,7 @@ module _ (old new : DomainsView) (arenas : SourceView ArenaShape) (raws : Source
   -- ---- frees
 
   -- the layout, without a block that is given up
-  left_is : (slots : Slots) (g : Guard) → IsStore slots old → IsGivenUp g old new → new.heap.layout ≡ layout_without old.heap.layout (home_at old.heap.places g.place)
+  pub left_is : (slots : Slots) (g : Guard) → IsStore slots old → IsGivenUp g old new → new.heap.layout ≡ layout_without old.heap.layout (home_at old.heap.places g.place)
   left_is slots g store gone = elim gone [
     | inl small ↦
         let long : 1 ≤ (guard_extent g).len = some_bytes g in

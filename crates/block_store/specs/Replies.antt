@@ -6,6 +6,8 @@ use Rattle.domain_api.specs.declared.answers.Freed.{Freed}
 use Rattle.domain_api.specs.declared.answers.Freed.TheVariants as frees
 use Rattle.domain_api.specs.declared.answers.Got.{Got}
 use Rattle.domain_api.specs.declared.answers.Got.TheVariants as gots
+use Rattle.domain_api.specs.declared.answers.Moved.{Moved}
+use Rattle.domain_api.specs.declared.answers.Moved.TheVariants as moves
 
 -- the answer to a request that got this
 abbrev pub answer_to : Got → PlainReply
@@ -28,3 +30,15 @@ answer_after (frees.Fault block found) = fault_in block.body found
 abbrev pub slots_after : List (Option Guard) → ℕ → Freed → List (Option Guard)
 slots_after slots i frees.Done = slots
 slots_after slots i (frees.Fault block found) = slice_set slots i (Some block)
+
+-- the answer to the realloc of a block that came to this
+abbrev pub answer_of : Moved → PlainReply
+answer_of (moves.Block block) = ok
+answer_of (moves.Null block) = null
+answer_of (moves.Fault block found) = fault_in block.body found
+
+-- the block that it left
+abbrev pub block_left : Moved → Guard
+block_left (moves.Block block) = block
+block_left (moves.Null block) = block
+block_left (moves.Fault block found) = block

@@ -10,18 +10,18 @@ ghost use Rattle.domain_api.specs.Held.{AreAskedNothing, AreHeld, AreSound, AreT
 ghost use Rattle.event_model.specs.Memory.{free_unless, peek_turn, poke_turn};
 ghost use Rattle.event_model.specs.Replies.{fault_in, plain_reply};
 ghost use Rattle.block_store.specs.Homes.{Places};
-ghost use Rattle.block_store.specs.Replies.{answer_to, answer_after, slots_with, slots_after};
+ghost use Rattle.block_store.specs.Replies.{answer_of, answer_to, answer_after, block_left, slots_with, slots_after};
 ghost use Rattle.block_store.specs.Slots.{block_in};
 
 use debug_guard::{Guarded, peek, poke, report};
-use domain_api::{Domains, Freed, Got};
+use domain_api::{Domains, Freed, Got, Moved};
 use mem_base::{Fault, List, Reply, TextId};
 use sources::{ArenaSource, RawSource};
 use std::alloc::{AllocError, Global};
 use std::mem;
 
-// Puts a block where there is none.
-fn put_new(slots: &mut Vec<Option<Guarded>>, name: TextId, block: Guarded)
+/// Puts a block where there is none.
+pub(crate) fn put_new(slots: &mut Vec<Option<Guarded>>, name: TextId, block: Guarded)
     requires there { name.0 < length slots.old.items }
     requires free { get_or slots.old.items name.0 None ≡ None }
     ensures { slots.new.items ≡ slice_set slots.old.items name.0 (Some block) }
@@ -89,6 +89,30 @@ pub(crate) fn put_back(slots: &mut Vec<Option<Guarded>>, name: TextId, freed: Fr
     }
 }
 
+/// Keeps the block that a realloc left, and answers the call.
+pub(crate) fn keep_moved(slots: &mut Vec<Option<Guarded>>, name: TextId, moved: Moved) -> Reply
+    requires there { name.0 < length slots.old.items }
+    requires free { get_or slots.old.items name.0 None ≡ None }
+    ensures slots { slots.new.items ≡ slice_set slots.old.items name.0 (Some (block_left moved)) }
+    ensures answer { (texts : List Name) → plain_reply texts result ≡ answer_of moved }
+{
+    match moved {
+        Moved::Block(block) => {
+            put_new(slots, name, block);
+            Reply::Ok
+        }
+        Moved::Null(block) => {
+            put_new(slots, name, block);
+            Reply::Null
+        }
+        Moved::Fault(block, found) => {
+            let reply = fault_reply(&block, found);
+            put_new(slots, name, block);
+            reply
+        }
+    }
+}
+
 /// Writes bytes at an offset from the data of a slot's block.
 pub(crate) fn poke_slot(slot: &mut Option<Guarded>, offset: i64, bytes: &[u8]) -> Reply
     requires { IsOffset offset }
@@ -142,7 +166,8 @@ pub(crate) fn drop_slot<A: ArenaSource, R: RawSource>(
     requires held { AreHeld domains.old (A.seen arenas.old) (R.seen raws.old) }
     ensures back { IfSome slot (λ block. IsGivenUp block domains.old domains.new) }
     ensures none { IfNone slot (domains.new ≡ domains.old) }
-    ensures nothing { AreAskedNothing (A.seen arenas.old) (A.seen arenas.new) (R.seen raws.old) (R.seen raws.new) }
+    ensures nothing { AreAskedNothing
+        (A.seen arenas.old) (A.seen arenas.new) (R.seen raws.old) (R.seen raws.new) }
     ensures traded { AreTraded domains.old domains.new
         (A.seen arenas.old) (A.seen arenas.new) (R.seen raws.old) (R.seen raws.new) }
     ensures held { AreHeld domains.new (A.seen arenas.new) (R.seen raws.new) }

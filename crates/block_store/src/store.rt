@@ -5,11 +5,12 @@ ghost use Rattle.block_store.specs.Store.{live_in, size_in};
 
 use crate::answer::{Answer, Call};
 use crate::slot::{
-    answer_to_nothing, drop_slot, empty_slots, keep, peek_slot, poke_slot, put_back,
+    answer_to_nothing, drop_slot, empty_slots, keep, keep_moved, peek_slot, poke_slot, put_back,
+    put_new,
 };
 use crate::spot::{Spot, spots_of};
 use debug_guard::{Guarded, size};
-use domain_api::{Domains, Made};
+use domain_api::{Domains, Made, MoveMade};
 use mem_base::{Counts, List, Reply, TextId, View};
 use sources::{ArenaSource, RawSource};
 use std::alloc::{AllocError, Global};
@@ -59,7 +60,7 @@ fn totals_of(slots: &[Option<Guarded>]) -> StoreTotals
 }
 
 impl Store {
-    ghost use Rattle.event_model.specs.Memory.{free_turn, malloc_call, peek_turn, poke_turn};
+    ghost use Rattle.event_model.specs.Memory.{calloc_call, free_turn, malloc_call, peek_turn, poke_turn, realloc_call};
     ghost use Rattle.block_store.specs.Sources.{AreHeld, ArenasServe, CanAsk, Fails, FailsUnrefused, IsPassedOn, RawsServe, Rests};
     ghost use Rattle.block_store.specs.Spots.{AreSpots, living};
     ghost use Rattle.block_store.specs.Store.{counts_in, empty_store, shape_in, sized_by, FitsCall, HoldsTheSame, IsTurn};
@@ -94,12 +95,14 @@ impl Store {
         requires there { name.0 < length self.old.blocks }
         requires ask { CanAsk self.old (A.seen arenas.old) (R.seen raws.old) }
         requires held { AreHeld self.old (A.seen arenas.old) (R.seen raws.old) }
-        ensures turn { IfOk result (λ a. IsTurn name.0 (sized_by (malloc_call call.letter size) call.locked a.asked)
-            self.old self.new a.reply) }
-        ensures fits { IfOk result (λ a. FitsCall self.old name.0 (malloc_call call.letter size) call.locked a.asked) }
+        ensures turn { IfOk result (λ a.
+            IsTurn name.0 (sized_by (malloc_call call.letter size) call.locked a.asked) self.old self.new a.reply) }
+        ensures fits { IfOk result (λ a.
+            FitsCall self.old name.0 (malloc_call call.letter size) call.locked a.asked) }
         ensures arenas { IfOk result (λ a.
             ArenasServe a.asked self.old self.new (A.seen arenas.old) (A.seen arenas.new)) }
-        ensures raws { IfOk result (λ a. RawsServe a.asked self.old self.new (R.seen raws.old) (R.seen raws.new)) }
+        ensures raws { IfOk result (λ a.
+            RawsServe a.asked self.old self.new (R.seen raws.old) (R.seen raws.new)) }
         ensures err { OnErr result (self.new ≡ self.old) }
         ensures fails_arenas { OnErr result (Fails self.old.arenas (A.seen arenas.old) (A.seen arenas.new)) }
         ensures fails_raws { OnErr result (FailsUnrefused self.old.raws (R.seen raws.old) (R.seen raws.new)) }
@@ -115,6 +118,101 @@ impl Store {
             .malloc(call.letter, size, call.locked, arenas, raws)?;
         let reply = keep(&mut self.slots, name, got);
         Ok(Answer { reply, asked })
+    }
+
+    /// A block of so many elements of so many bytes each for a name, all of them 00: `busy` where the name
+    /// has one. The error is want of memory: then the store is as it was, and all that a source granted
+    /// has gone back.
+    pub fn calloc<A: ArenaSource, R: RawSource>(
+        &mut self,
+        name: TextId,
+        call: Call,
+        elements: u64,
+        size: u64,
+        arenas: &mut A,
+        raws: &mut R,
+    ) -> Result<Answer, AllocError>
+        requires there { name.0 < length self.old.blocks }
+        requires ask { CanAsk self.old (A.seen arenas.old) (R.seen raws.old) }
+        requires held { AreHeld self.old (A.seen arenas.old) (R.seen raws.old) }
+        ensures turn { IfOk result (λ a.
+            IsTurn name.0 (sized_by (calloc_call call.letter elements size) call.locked a.asked) self.old self.new a.reply) }
+        ensures fits { IfOk result (λ a.
+            FitsCall self.old name.0 (calloc_call call.letter elements size) call.locked a.asked) }
+        ensures arenas { IfOk result (λ a.
+            ArenasServe a.asked self.old self.new (A.seen arenas.old) (A.seen arenas.new)) }
+        ensures raws { IfOk result (λ a.
+            RawsServe a.asked self.old self.new (R.seen raws.old) (R.seen raws.new)) }
+        ensures err { OnErr result (self.new ≡ self.old) }
+        ensures fails_arenas { OnErr result (Fails self.old.arenas (A.seen arenas.old) (A.seen arenas.new)) }
+        ensures fails_raws { OnErr result (FailsUnrefused self.old.raws (R.seen raws.old) (R.seen raws.new)) }
+        ensures passed { OnErr result
+            (IsPassedOn (A.seen arenas.old) (A.seen arenas.new) (R.seen raws.old) (R.seen raws.new)) }
+        ensures held { AreHeld self.new (A.seen arenas.new) (R.seen raws.new) }
+    {
+        if self.slots[name.0 as usize].is_some() {
+            return Ok(Answer::unasked(Reply::Busy));
+        }
+        let Made { got, asked } = self
+            .domains
+            .calloc(call.letter, elements, size, call.locked, arenas, raws)?;
+        let reply = keep(&mut self.slots, name, got);
+        Ok(Answer { reply, asked })
+    }
+
+    /// The block of a name with so many bytes: in place, or moved with its data; where the name has none, a
+    /// new block. Null and a fault leave the block as it was. The error is want of memory: then the store
+    /// is as it was, and all that a source granted has gone back.
+    pub fn realloc<A: ArenaSource, R: RawSource>(
+        &mut self,
+        name: TextId,
+        call: Call,
+        size: u64,
+        arenas: &mut A,
+        raws: &mut R,
+    ) -> Result<Answer, AllocError>
+        requires there { name.0 < length self.old.blocks }
+        requires ask { CanAsk self.old (A.seen arenas.old) (R.seen raws.old) }
+        requires held { AreHeld self.old (A.seen arenas.old) (R.seen raws.old) }
+        ensures turn { IfOk result (λ a.
+            IsTurn name.0 (sized_by (realloc_call call.letter size) call.locked a.asked) self.old self.new a.reply) }
+        ensures fits { IfOk result (λ a.
+            FitsCall self.old name.0 (realloc_call call.letter size) call.locked a.asked) }
+        ensures arenas { IfOk result (λ a.
+            ArenasServe a.asked self.old self.new (A.seen arenas.old) (A.seen arenas.new)) }
+        ensures raws { IfOk result (λ a.
+            RawsServe a.asked self.old self.new (R.seen raws.old) (R.seen raws.new)) }
+        ensures err { OnErr result (self.new ≡ self.old) }
+        ensures fails_arenas { OnErr result (Fails self.old.arenas (A.seen arenas.old) (A.seen arenas.new)) }
+        ensures fails_raws { OnErr result (FailsUnrefused self.old.raws (R.seen raws.old) (R.seen raws.new)) }
+        ensures passed { OnErr result
+            (IsPassedOn (A.seen arenas.old) (A.seen arenas.new) (R.seen raws.old) (R.seen raws.new)) }
+        ensures held { AreHeld self.new (A.seen arenas.new) (R.seen raws.new) }
+    {
+        match self.slots[name.0 as usize].take() {
+            None => {
+                let Made { got, asked } = self
+                    .domains
+                    .malloc(call.letter, size, call.locked, arenas, raws)?;
+                let reply = keep(&mut self.slots, name, got);
+                Ok(Answer { reply, asked })
+            }
+            Some(block) => {
+                let came = self
+                    .domains
+                    .realloc(block, call.letter, size, call.locked, arenas, raws);
+                match came {
+                    Ok(MoveMade { got, asked }) => {
+                        let reply = keep_moved(&mut self.slots, name, got);
+                        Ok(Answer { reply, asked })
+                    }
+                    Err(block) => {
+                        put_new(&mut self.slots, name, block);
+                        Err(AllocError)
+                    }
+                }
+            }
+        }
     }
 
     /// Gives up the block of a name, where it has one, unless the call is a fault. This takes no memory

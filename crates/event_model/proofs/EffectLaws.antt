@@ -5,7 +5,7 @@ use Rattle.mem_base.specs.Name.{Name}
 use Rattle.mem_base.specs.declared.history.Grant.{Grant}
 use Rattle.mem_base.specs.declared.history.Ask.{Ask}
 use Rattle.mem_base.specs.declared.history.Entry.{Entry}
-use Rattle.trace_model.specs.Plain.{Action, acquire, release, malloc, free, poke, peek, heap, refuse, other, PlainTrack, name_of}
+use Rattle.trace_model.specs.Plain.{Action, acquire, release, malloc, calloc, realloc, free, poke, peek, heap, refuse, other, PlainTrack, name_of}
 use Rattle.layout_model.specs.Asks.{Request, FitsRequest}
 use Rattle.layout_model.specs.Asks.Request.{FromPools}
 use Rattle.layout_model.specs.Layout.{Layout}
@@ -18,7 +18,7 @@ use Rattle.event_model.specs.Effects.{effect, may_do_next, on_sized, request_of,
 use Rattle.event_model.specs.Events.{event, event_of, settle, advance, next_action, next_request}
 use Rattle.event_model.specs.History.{IsNext}
 use Rattle.event_model.specs.Laws.{IsNull}
-use Rattle.event_model.specs.Memory.{SizedCall, finding_of, malloc_call}
+use Rattle.event_model.specs.Memory.{SizedCall, calloc_call, finding_of, malloc_call, realloc_call}
 use Rattle.event_model.specs.Replies.{PlainReply, ok, null, held, not_held, is_fault}
 use Rattle.event_model.specs.State.{Held, State, is_owner}
 use Rattle.event_model.proofs.KeepLaws.{sized_keeps, free_keeps, poke_keeps, peek_keeps}
@@ -36,6 +36,14 @@ sized_is h t (malloc v mine n) arena raw name call named sized =
     let same : mine ≡ name = cc in
     let this : malloc_call v n ≡ call = cc in
     λ i. on_sized h t (same i) (this i) arena raw
+sized_is h t (calloc v mine count n) arena raw name call named sized =
+    let same : mine ≡ name = cc in
+    let this : calloc_call v count n ≡ call = cc in
+    λ i. on_sized h t (same i) (this i) arena raw
+sized_is h t (realloc v mine n) arena raw name call named sized =
+    let same : mine ≡ name = cc in
+    let this : realloc_call v n ≡ call = cc in
+    λ i. on_sized h t (same i) (this i) arena raw
 sized_is h t (free v mine) arena raw name call named sized = absurd cc
 sized_is h t (poke mine offset new) arena raw name call named sized = absurd cc
 sized_is h t (peek mine offset count) arena raw name call named sized = absurd cc
@@ -50,6 +58,14 @@ sized_asks h t release name call named sized = absurd cc
 sized_asks h t (malloc v mine n) name call named sized =
     let same : mine ≡ name = cc in
     let this : malloc_call v n ≡ call = cc in
+    λ i. sized_for h t (same i) (this i)
+sized_asks h t (calloc v mine count n) name call named sized =
+    let same : mine ≡ name = cc in
+    let this : calloc_call v count n ≡ call = cc in
+    λ i. sized_for h t (same i) (this i)
+sized_asks h t (realloc v mine n) name call named sized =
+    let same : mine ≡ name = cc in
+    let this : realloc_call v n ≡ call = cc in
     λ i. sized_for h t (same i) (this i)
 sized_asks h t (free v mine) name call named sized = absurd cc
 sized_asks h t (poke mine offset new) name call named sized = absurd cc
@@ -66,6 +82,8 @@ effect_holds : (P : Layout → Type 0) (h : Held) (t : ℕ) (a : Action) (arena 
 effect_holds P h t acquire arena raw here placed unplaced = here
 effect_holds P h t release arena raw here placed unplaced = here
 effect_holds P h t (malloc v name n) arena raw here placed unplaced = sized_holds P (malloc_call v n) (is_owner h.owner t) arena raw h.layout (find h.blocks name) here placed unplaced
+effect_holds P h t (calloc v name count n) arena raw here placed unplaced = sized_holds P (calloc_call v count n) (is_owner h.owner t) arena raw h.layout (find h.blocks name) here placed unplaced
+effect_holds P h t (realloc v name n) arena raw here placed unplaced = sized_holds P (realloc_call v n) (is_owner h.owner t) arena raw h.layout (find h.blocks name) here placed unplaced
 effect_holds P h t (free v name) arena raw here placed unplaced =
     let now = find h.blocks name in
     unless_holds P (call_fault v (is_owner h.owner t) (finding_of v now)) h.layout now here unplaced
@@ -115,6 +133,8 @@ null_by : (tracks : List PlainTrack) (s : State) (e : Entry) (a : Action) → ne
 null_by tracks s e acquire is fits h = absurd (acquire_null e.track s.held.owner h)
 null_by tracks s e release is fits h = absurd (release_null e.track s.held.owner h)
 null_by tracks s e (malloc v name n) is fits h = null_sized tracks s e (malloc v name n) name (malloc_call v n) is refl refl fits h
+null_by tracks s e (calloc v name count n) is fits h = null_sized tracks s e (calloc v name count n) name (calloc_call v count n) is refl refl fits h
+null_by tracks s e (realloc v name n) is fits h = null_sized tracks s e (realloc v name n) name (realloc_call v n) is refl refl fits h
 null_by tracks s e (free v name) is fits h =
     let now = find s.held.blocks name in
     absurd (free_null (call_fault v (is_owner s.held.owner e.track) (finding_of v now)) s.held.layout now h)
@@ -157,6 +177,8 @@ owner_after h t release arena raw u own = by (is_owner h.owner t) own
     by true own = absurd cc
     by false own = inr own
 owner_after h t (malloc v name n) arena raw u own = inr own
+owner_after h t (calloc v name count n) arena raw u own = inr own
+owner_after h t (realloc v name n) arena raw u own = inr own
 owner_after h t (free v name) arena raw u own = inr own
 owner_after h t (poke name offset new) arena raw u own = inr own
 owner_after h t (peek name offset count) arena raw u own = inr own
@@ -169,6 +191,8 @@ pub owner_may_do : (t : ℕ) (a : Action) → may_do_next (Some t) t a ≡ true
 owner_may_do t acquire = elim (eqb_tells t t) [ inl hit ↦ hit.0 | inr miss ↦ absurd (miss.1 refl) ]
 owner_may_do t release = refl
 owner_may_do t (malloc v name n) = refl
+owner_may_do t (calloc v name count n) = refl
+owner_may_do t (realloc v name n) = refl
 owner_may_do t (free v name) = refl
 owner_may_do t (poke name offset new) = refl
 owner_may_do t (peek name offset count) = refl
@@ -181,6 +205,8 @@ pub may_do_free : (t : ℕ) (a : Action) → may_do_next None t a ≡ true
 may_do_free t acquire = refl
 may_do_free t release = refl
 may_do_free t (malloc v name n) = refl
+may_do_free t (calloc v name count n) = refl
+may_do_free t (realloc v name n) = refl
 may_do_free t (free v name) = refl
 may_do_free t (poke name offset new) = refl
 may_do_free t (peek name offset count) = refl
@@ -194,6 +220,8 @@ waits_for_lock None t acquire waits = absurd (true≢false waits)
 waits_for_lock (Some u) t acquire waits = elim (eqb_tells u t) [ inl hit ↦ absurd (true≢false (sym hit.0 ∙ waits)) | inr miss ↦ (refl, u, refl, miss.1) ]
 waits_for_lock owner t release waits = absurd (true≢false waits)
 waits_for_lock owner t (malloc v name n) waits = absurd (true≢false waits)
+waits_for_lock owner t (calloc v name count n) waits = absurd (true≢false waits)
+waits_for_lock owner t (realloc v name n) waits = absurd (true≢false waits)
 waits_for_lock owner t (free v name) waits = absurd (true≢false waits)
 waits_for_lock owner t (poke name offset new) waits = absurd (true≢false waits)
 waits_for_lock owner t (peek name offset count) waits = absurd (true≢false waits)
@@ -211,6 +239,8 @@ pub effect_keeps_others : (h : Held) (t : ℕ) (a : Action) (arena : Grant) (raw
 effect_keeps_others h t acquire arena raw name ne = refl
 effect_keeps_others h t release arena raw name ne = refl
 effect_keeps_others h t (malloc v mine n) arena raw name ne = find-hold_other h.blocks mine name _ (differs name mine ne)
+effect_keeps_others h t (calloc v mine count n) arena raw name ne = find-hold_other h.blocks mine name _ (differs name mine ne)
+effect_keeps_others h t (realloc v mine n) arena raw name ne = find-hold_other h.blocks mine name _ (differs name mine ne)
 effect_keeps_others h t (free v mine) arena raw name ne = find-hold_other h.blocks mine name _ (differs name mine ne)
 effect_keeps_others h t (poke mine offset new) arena raw name ne = find-hold_other h.blocks mine name _ (differs name mine ne)
 effect_keeps_others h t (peek mine offset count) arena raw name ne = find-hold_other h.blocks mine name _ (differs name mine ne)
@@ -224,6 +254,10 @@ effect_keeps_unless_ok h t acquire arena raw name ne = refl
 effect_keeps_unless_ok h t release arena raw name ne = refl
 effect_keeps_unless_ok h t (malloc v mine n) arena raw name ne =
     find-hold_again h.blocks mine name _ (sized_keeps (malloc_call v n) (is_owner h.owner t) arena raw h.layout (find h.blocks mine) ne)
+effect_keeps_unless_ok h t (calloc v mine count n) arena raw name ne =
+    find-hold_again h.blocks mine name _ (sized_keeps (calloc_call v count n) (is_owner h.owner t) arena raw h.layout (find h.blocks mine) ne)
+effect_keeps_unless_ok h t (realloc v mine n) arena raw name ne =
+    find-hold_again h.blocks mine name _ (sized_keeps (realloc_call v n) (is_owner h.owner t) arena raw h.layout (find h.blocks mine) ne)
 effect_keeps_unless_ok h t (free v mine) arena raw name ne =
     let now = find h.blocks mine in
     find-hold_again h.blocks mine name _ (free_keeps (call_fault v (is_owner h.owner t) (finding_of v now)) h.layout now ne)

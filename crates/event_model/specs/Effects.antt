@@ -11,10 +11,10 @@ use Rattle.layout_model.specs.Asks.{Request}
 use Rattle.layout_model.specs.Asks.Request.{NoRequest}
 use Rattle.layout_model.specs.Layout.{Layout}
 use Rattle.map_model.specs.Map.{find, hold}
-use Rattle.trace_model.specs.Plain.{Action, acquire, release, malloc, free, poke, peek, heap, refuse, other}
+use Rattle.trace_model.specs.Plain.{Action, acquire, release, malloc, calloc, realloc, free, poke, peek, heap, refuse, other}
 use Rattle.event_model.specs.Blocks.{Block}
 use Rattle.event_model.specs.Lock.{acquire_turn, release_turn}
-use Rattle.event_model.specs.Memory.{SizedCall, Turn, free_turn, malloc_call, peek_turn, poke_turn, sized_request, sized_turn}
+use Rattle.event_model.specs.Memory.{SizedCall, Turn, calloc_call, free_turn, malloc_call, peek_turn, poke_turn, realloc_call, sized_request, sized_turn}
 use Rattle.event_model.specs.Replies.{PlainReply, ok, shape, unsaid}
 use Rattle.event_model.specs.Shape.{heap_view}
 use Rattle.event_model.specs.State.{Held, is_owner}
@@ -40,6 +40,8 @@ abbrev pub effect : Held → ℕ → Action → Grant → Ask → Held × PlainR
 effect h t acquire arena raw = on_lock h (acquire_turn t)
 effect h t release arena raw = on_lock h (release_turn t)
 effect h t (malloc v name n) arena raw = on_sized h t name (malloc_call v n) arena raw
+effect h t (calloc v name count n) arena raw = on_sized h t name (calloc_call v count n) arena raw
+effect h t (realloc v name n) arena raw = on_sized h t name (realloc_call v n) arena raw
 effect h t (free v name) arena raw = on_block h name (free_turn v (is_owner h.owner t))
 effect h t (poke name offset new) arena raw = on_block h name (poke_turn offset new)
 effect h t (peek name offset count) arena raw = on_block h name (peek_turn offset count)
@@ -58,6 +60,8 @@ abbrev pub may_do_next : Option ℕ → ℕ → Action → Bool
 may_do_next owner t acquire = is_free owner t
 may_do_next owner t release = true
 may_do_next owner t (malloc v name n) = true
+may_do_next owner t (calloc v name count n) = true
+may_do_next owner t (realloc v name n) = true
 may_do_next owner t (free v name) = true
 may_do_next owner t (poke name offset new) = true
 may_do_next owner t (peek name offset count) = true
@@ -76,6 +80,8 @@ abbrev pub request_of : Held → ℕ → Action → Request
 request_of h t acquire = NoRequest
 request_of h t release = NoRequest
 request_of h t (malloc v name n) = sized_for h t name (malloc_call v n)
+request_of h t (calloc v name count n) = sized_for h t name (calloc_call v count n)
+request_of h t (realloc v name n) = sized_for h t name (realloc_call v n)
 request_of h t (free v name) = NoRequest
 request_of h t (poke name offset new) = NoRequest
 request_of h t (peek name offset count) = NoRequest
@@ -90,6 +96,8 @@ abbrev pub sized_call : Action → Option SizedCall
 sized_call acquire = None
 sized_call release = None
 sized_call (malloc v name n) = Some (malloc_call v n)
+sized_call (calloc v name count n) = Some (calloc_call v count n)
+sized_call (realloc v name n) = Some (realloc_call v n)
 sized_call (free v name) = None
 sized_call (poke name offset new) = None
 sized_call (peek name offset count) = None
@@ -110,6 +118,8 @@ abbrev pub lists_as : Side → ℕ → Action → ℕ → Bool
 lists_as s asked acquire n = false
 lists_as s asked release n = false
 lists_as s asked (malloc v name size) n = false
+lists_as s asked (calloc v name count size) n = false
+lists_as s asked (realloc v name size) n = false
 lists_as s asked (free v name) n = false
 lists_as s asked (poke name offset new) n = false
 lists_as s asked (peek name offset count) n = false

@@ -1,6 +1,6 @@
 -- The memory operations: what malloc, calloc, realloc, free, poke and peek do to the block of one name and to the
 -- layout.
-use Rattle.std.specs.Prelude.{ℕ, ◌*◌, ℤ, Bool, true, false, not, ◌&&◌, nat_le, nat_lt, if◌then◌else◌, List, length, Option, Some, None}
+use Rattle.std.specs.Prelude.{ℕ, ◌*◌, ℤ, Bool, true, false, not, ◌&&◌, if◌then◌else◌, List, length, Option, Some, None}
 use Rattle.mem_base.specs.declared.trace.Letter.{Letter}
 use Rattle.mem_base.specs.declared.history.Grant.{Grant}
 use Rattle.mem_base.specs.declared.history.Ask.{Ask}
@@ -13,7 +13,7 @@ use Rattle.layout_model.specs.Layout.{Layout}
 use Rattle.layout_model.specs.Place.{Placed, place}
 use Rattle.layout_model.specs.Sizes.{class_of, is_small, need}
 use Rattle.layout_model.specs.Unplace.{unplace}
-use Rattle.request_model.specs.Decision.{Decision, too_great, faults, asks, call_fault, decision, request, request_after}
+use Rattle.request_model.specs.Decision.{Decision, too_great, faults, asks, call_fault, decision, fits_in_place, move_request, request, request_after}
 use Rattle.event_model.specs.Blocks.{Home, in_pool, in_raw, Block, is_pooled, len_at}
 use Rattle.event_model.specs.Replies.{PlainReply, ok, null, busy, absent, outside, bytes, fault, fault_in}
 
@@ -109,16 +109,6 @@ new_block_turn call arena raw l too_great = turn_to None l null
 new_block_turn call arena raw l (faults found) = turn_to None l (fault found None)
 new_block_turn call arena raw l asks =
     let room = room_for l (request call.letter call.size) arena raw in new_block call room.home room.layout
-
--- a block of a pool whose blocks have s bytes may stay where it is for m bytes: they fit, and are more than three
--- quarters of it
-abbrev pub fits_in_place : ℕ → ℕ → Bool
-fits_in_place s m = nat_le m s && nat_lt (3 * s) (4 * m)
-
--- what a block that has to move to have n bytes of data asks for: one of a pool what a new block does, one of a raw
--- region a raw region again
-abbrev pub move_request : Bool → Letter → ℕ → Request
-move_request pooled v n = if pooled then request v n else FromRaw (need n)
 
 -- a block of a pool in which m bytes fit stays where it is
 abbrev pub stays_in_place : Block → ℕ → Bool

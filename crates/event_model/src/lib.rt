@@ -13,8 +13,11 @@
 //!
 //! 1. `effect` says what the operation does to `held` and answers. It sees nothing else, so no operation
 //!    can change `done` or `faulted`. An operation of a family works on that family's part alone:
-//!    - memory (`malloc`, `free`, `poke`, `peek`): the block of one name, and the layout. This is what
-//!      `_PyMem_DebugRawMalloc`, `_PyMem_DebugRawFree` and `_PyMem_DebugCheckAddress` do;
+//!    - memory (`malloc`, `calloc`, `realloc`, `free`, `poke`, `peek`): the block of one name, and the
+//!      layout. This is what `_PyMem_DebugRawMalloc`, `_PyMem_DebugRawCalloc`, `_PyMem_DebugRawRealloc`,
+//!      `_PyMem_DebugRawFree` and `_PyMem_DebugCheckAddress` do. `malloc`, `calloc` and `realloc` are one
+//!      case, a call for a block: its domain, its size, what new data holds, and whether it goes on from
+//!      the block that its name holds;
 //!    - the lock (`acquire`, `release`): its owner, as `take_gil` and `drop_gil` do;
 //!    - the heap's shape (`heap`): nothing, it reads what `_PyObject_DebugMallocStats` does;
 //!    - refusals (`refuse`): nothing, the plan of refusals takes down which requests it lists.

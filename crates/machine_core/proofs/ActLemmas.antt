@@ -69,6 +69,12 @@ quiet_lists (ops.Refuse at number) side quiet = absurd (true≢false (sym quiet)
 pub malloc_lists : (op : Op) (side : Side) (letter : _) (name : _) (size : ℕ) → op ≡ ops.Malloc letter name size → ListsNone op side
 malloc_lists op side letter name size is = subst (λ (o : Op). ListsNone o side) (sym is) (λ texts asked n. refl)
 
+pub calloc_lists : (op : Op) (side : Side) (letter : _) (name : _) (count size : ℕ) → op ≡ ops.Calloc letter name count size → ListsNone op side
+calloc_lists op side letter name count size is = subst (λ (o : Op). ListsNone o side) (sym is) (λ texts asked n. refl)
+
+pub realloc_lists : (op : Op) (side : Side) (letter : _) (name : _) (size : ℕ) → op ≡ ops.Realloc letter name size → ListsNone op side
+realloc_lists op side letter name size is = subst (λ (o : Op). ListsNone o side) (sym is) (λ texts asked n. refl)
+
 pub free_lists : (op : Op) (side : Side) (letter : _) (name : _) → op ≡ ops.Free letter name → ListsNone op side
 free_lists op side letter name is = subst (λ (o : Op). ListsNone o side) (sym is) (λ texts asked n. refl)
 

@@ -32,7 +32,7 @@ use Rattle.request_model.specs.Decision.{Decision, too_great, faults, asks, call
 use Rattle.event_model.specs.Blocks.{Block, Home}
 use Rattle.event_model.specs.Effects.{effect, on_block, request_of, sized_call}
 use Rattle.event_model.specs.Lock.{acquire_turn, release_turn}
-use Rattle.event_model.specs.Memory.{SizedCall, Turn, came_to, change_turn, changed_body, finding_of, free_turn, free_unless, malloc_call, move_block, request_to_move, new_block, new_block_turn, peek_turn, poke_turn, room_for, sized_request, stays_in_place, turn_to}
+use Rattle.event_model.specs.Memory.{SizedCall, Turn, calloc_call, came_to, change_turn, changed_body, finding_of, free_turn, free_unless, malloc_call, move_block, request_to_move, new_block, new_block_turn, peek_turn, poke_turn, realloc_call, room_for, sized_request, stays_in_place, turn_to}
 use Rattle.event_model.specs.Replies.{PlainReply, busy, held as held_reply, not_held, ok, outside, bytes, is_fault, plain_reply}
 use Rattle.event_model.specs.State.{Held, is_owner}
 use Rattle.event_model.proofs.CallerLemmas.{sized_asks, sized_is}
@@ -314,3 +314,9 @@ call_is sized v owns call is = (ap (λ (c : Call). sized c.letter) is, ap (λ (c
 
 pub is_malloc : (op : Op) (v : Letter) (name : TextId) (n : ℕ) → op ≡ ops.Malloc v name n → IsCallFor op name (malloc_call v n)
 is_malloc op v name n is = subst (λ (o : Op). IsCallFor o name (malloc_call v n)) (sym is) (λ texts. (refl, refl))
+
+pub is_calloc : (op : Op) (v : Letter) (name : TextId) (count n : ℕ) → op ≡ ops.Calloc v name count n → IsCallFor op name (calloc_call v count n)
+is_calloc op v name count n is = subst (λ (o : Op). IsCallFor o name (calloc_call v count n)) (sym is) (λ texts. (refl, refl))
+
+pub is_realloc : (op : Op) (v : Letter) (name : TextId) (n : ℕ) → op ≡ ops.Realloc v name n → IsCallFor op name (realloc_call v n)
+is_realloc op v name n is = subst (λ (o : Op). IsCallFor o name (realloc_call v n)) (sym is) (λ texts. (refl, refl))

@@ -1,9 +1,9 @@
 //! What operations work on, and what each of them does to it.
 //!
-//! An operation of a track comes to one call: of the store for a block (`malloc`, `free`, `poke`,
-//! `peek`) and for the heap's shape, of the owner for the interpreter lock (`take_gil` and `drop_gil` of
-//! CPython's `ceval_gil.c`, without the waiting: a track that has to wait is not ready), and of a source
-//! for a refusal.
+//! An operation of a track comes to one call: of the store for a block (`malloc`, `calloc`, `realloc`,
+//! `free`, `poke`, `peek`) and for the heap's shape, of the owner for the interpreter lock (`take_gil` and
+//! `drop_gil` of CPython's `ceval_gil.c`, without the waiting: a track that has to wait is not ready), and
+//! of a source for a refusal.
 ghost use Rattle.std.specs.Prelude.{◌≡◌, ◌<◌, ◌≤◌, ◌^◌, List, length, true, false, is_some, IfOk, IfSome, IfNone, OnOk, OnErr};
 ghost use Rattle.mem_base.specs.Name.{Name};
 ghost use Rattle.mem_base.specs.declared.limits.TheConstants.{MAX_REFUSAL};
@@ -89,7 +89,8 @@ impl Held {
     fn quiet(&mut self, alloc: Global, t: TrackId, op: &Op) -> Result<Option<Reply>, AllocError>
         requires { IsKnownAmong (length self.old.store.blocks) op.now }
         ensures done { IfOk result (λ r. is_some r ≡ is_quiet op.now) }
-        ensures acts { IfOk result (λ r. IfSome r (λ reply. Acts t op.now self.old self.new not_asked reply)) }
+        ensures acts { IfOk result (λ r.
+            IfSome r (λ reply. Acts t op.now self.old self.new not_asked reply)) }
         ensures same { HoldsTheSame self.old.store self.new.store }
         ensures others { IfOk result (λ r. IfNone r (self.new ≡ self.old)) }
         ensures err { OnErr result (self.new ≡ self.old) }
@@ -164,6 +165,15 @@ impl Held {
                 let call = self.call(t, *letter);
                 self.store.malloc(*name, call, *size, arenas, raws)
             }
+            Op::Calloc(letter, name, elements, size) => {
+                let call = self.call(t, *letter);
+                self.store
+                    .calloc(*name, call, *elements, *size, arenas, raws)
+            }
+            Op::Realloc(letter, name, size) => {
+                let call = self.call(t, *letter);
+                self.store.realloc(*name, call, *size, arenas, raws)
+            }
             Op::Free(letter, name) => {
                 let call = self.call(t, *letter);
                 let reply = self.store.free(*name, call, arenas, raws);
@@ -173,7 +183,6 @@ impl Held {
                 refuse(*side, *k, arenas, raws)?;
                 Ok(Answer::unasked(Reply::Ok))
             }
-            Op::Calloc(_, _, _, _) | Op::Realloc(_, _, _) => unreachable!(),
             Op::Acquire
             | Op::Release
             | Op::Poke(_, _, _)

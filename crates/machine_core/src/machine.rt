@@ -145,7 +145,8 @@ impl Machine {
     pub fn end<A: ArenaSource, R: RawSource>(self, arenas: &mut A, raws: &mut R) -> History
         requires held { AreOut self.arenas self.raws (A.seen arenas.old) (R.seen raws.old) }
         ensures history { result.entries ≡ self.entries }
-        ensures nothing { AreAskedNothing (A.seen arenas.old) (A.seen arenas.new) (R.seen raws.old) (R.seen raws.new) }
+        ensures nothing { AreAskedNothing
+            (A.seen arenas.old) (A.seen arenas.new) (R.seen raws.old) (R.seen raws.new) }
         ensures arenas { Traded self.arenas [] (A.seen arenas.old) (A.seen arenas.new) }
         ensures raws { Traded self.raws [] (R.seen raws.old) (R.seen raws.new) }
     {

@@ -347,12 +347,16 @@ acquire
 malloc m x 9223372036854775807
 malloc m x 9223372036854775784
 malloc m x 9223372036854775783
+calloc m x 2 4611686018427387904
+calloc m x 2 9223372036854775808
 ",
             report: b"1 t acquire = ok
 2 t malloc m x 9223372036854775807 = null
 3 t malloc m x 9223372036854775784 = null
 4 t malloc m x 9223372036854775783 = null
-summary events 4 status 0
+5 t calloc m x 2 4611686018427387904 = null
+6 t calloc m x 2 9223372036854775808 = null
+summary events 6 status 0
 summary lock free
 summary blocks 0 bytes 0
 summary arenas given 0 back 0 most 0
@@ -361,6 +365,141 @@ summary traced 0 peak 0
             status: 0,
             arenas: (0, 0),
             raws: (1, 1),
+        },
+        // New data of malloc is CD, that of calloc 00.
+        Replayed {
+            trace: b"pymtrace 1
+track t
+acquire
+malloc m x 4
+peek x 0 4
+calloc o y 2 3
+peek y -8 22
+",
+            report: b"1 t acquire = ok
+2 t malloc m x 4 = ok
+3 t peek x 0 4 = cdcdcdcd
+4 t calloc o y 2 3 = ok
+5 t peek y -8 22 = 6ffdfdfdfdfdfdfd000000000000fdfdfdfdfdfdfdfd
+summary events 5 status 0
+summary lock free
+summary blocks 2 bytes 10
+summary arenas given 1 back 0 most 1
+summary traced 0 peak 0
+",
+            status: 0,
+            arenas: (1, 0),
+            raws: (0, 0),
+        },
+        // A block stays while more than three quarters of its place are used, and moves at just that.
+        Replayed {
+            trace: b"pymtrace 1
+track t
+acquire
+malloc m x 100
+realloc m x 80
+heap
+realloc m x 72
+heap
+",
+            report: b"1 t acquire = ok
+2 t malloc m x 100 = ok
+3 t realloc m x 80 = ok
+4 t heap = pool 1 raw 0
+  arena 1 free 63 of 64
+  class 128 used 1:1 full 0
+5 t realloc m x 72 = ok
+6 t heap = pool 1 raw 0
+  arena 1 free 63 of 64
+  class 96 used 1:1 full 0
+summary events 6 status 0
+summary lock free
+summary blocks 1 bytes 72
+summary arenas given 1 back 0 most 1
+summary traced 0 peak 0
+",
+            status: 0,
+            arenas: (1, 0),
+            raws: (0, 0),
+        },
+        // A name that holds nothing, and damage that a realloc finds.
+        Replayed {
+            trace: b"pymtrace 1
+track t
+acquire
+acquire
+malloc m x 4
+malloc m x 9
+free m x
+free m x
+realloc m x 4
+poke y 0 00
+poke x 12 00
+peek x 4 8
+poke x 11 00
+realloc m x 5
+",
+            report: b"1 t acquire = ok
+2 t acquire = held
+3 t malloc m x 4 = ok
+4 t malloc m x 9 = busy
+5 t free m x = ok
+6 t free m x = ok
+7 t realloc m x 4 = ok
+8 t poke y 0 00 = absent
+9 t poke x 12 00 = outside
+10 t peek x 4 8 = fdfdfdfdfdfdfdfd
+11 t poke x 11 00 = ok
+12 t realloc m x 5 = fault
+  bad_tail 7
+  block x size 4
+  head 6dfdfdfdfdfdfdfd
+  tail fdfdfdfdfdfdfd00
+summary events 12 status 1
+summary lock t
+summary blocks 1 bytes 4
+summary arenas given 1 back 0 most 1
+summary traced 0 peak 0
+",
+            status: 1,
+            arenas: (1, 0),
+            raws: (0, 0),
+        },
+        // A block that is refused its new place stays as it was, and a raw one stays raw.
+        Replayed {
+            trace: b"pymtrace 1
+track t
+malloc r x 3
+poke x 0 616263
+refuse raw 1
+realloc r x 5
+peek x -8 19
+realloc r x 5
+peek x -8 21
+realloc r x 2
+peek x -8 18
+realloc m x 9
+",
+            report: b"1 t malloc r x 3 = ok
+2 t poke x 0 616263 = ok
+3 t refuse raw 1 = ok
+4 t realloc r x 5 = null
+5 t peek x -8 19 = 72fdfdfdfdfdfdfd616263fdfdfdfdfdfdfdfd
+6 t realloc r x 5 = ok
+7 t peek x -8 21 = 72fdfdfdfdfdfdfd616263cdcdfdfdfdfdfdfdfdfd
+8 t realloc r x 2 = ok
+9 t peek x -8 18 = 72fdfdfdfdfdfdfd6162fdfdfdfdfdfdfdfd
+10 t realloc m x 9 = fault
+  unlocked
+summary events 10 status 1
+summary lock free
+summary blocks 1 bytes 2
+summary arenas given 0 back 0 most 0
+summary traced 0 peak 0
+",
+            status: 1,
+            arenas: (0, 0),
+            raws: (4, 1),
         },
     ];
     for (at, row) in rows.iter().enumerate() {

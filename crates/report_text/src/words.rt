@@ -114,6 +114,22 @@ pub(crate) fn push_op(text: &mut Vec<u8>, texts: &Texts, op: &Op) -> Result<(), 
             text.push(b' ')?;
             push_number(text, *size)
         }
+        Op::Calloc(letter, name, elements, size) => {
+            push_keyword(text, Keyword::Calloc)?;
+            push_letter(text, *letter)?;
+            push_name(text, texts, *name)?;
+            text.push(b' ')?;
+            push_number(text, *elements)?;
+            text.push(b' ')?;
+            push_number(text, *size)
+        }
+        Op::Realloc(letter, name, size) => {
+            push_keyword(text, Keyword::Realloc)?;
+            push_letter(text, *letter)?;
+            push_name(text, texts, *name)?;
+            text.push(b' ')?;
+            push_number(text, *size)
+        }
         Op::Free(letter, name) => {
             push_keyword(text, Keyword::Free)?;
             push_letter(text, *letter)?;
@@ -137,9 +153,7 @@ pub(crate) fn push_op(text: &mut Vec<u8>, texts: &Texts, op: &Op) -> Result<(), 
         }
         Op::Heap => push_keyword(text, Keyword::Heap),
         Op::Refuse(side, number) => push_refusal(text, *side, *number),
-        Op::Calloc(_, _, _, _)
-        | Op::Realloc(_, _, _)
-        | Op::Enter(_, _)
+        Op::Enter(_, _)
         | Op::Line(_)
         | Op::Leave
         | Op::Start(_)

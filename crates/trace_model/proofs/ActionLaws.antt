@@ -9,7 +9,7 @@ use Rattle.mem_base.specs.declared.trace.Op.{Op}
 use Rattle.mem_base.specs.declared.trace.Op.TheVariants as code
 use Rattle.mem_base.specs.declared.limits.TheConstants.{MAX_REACH, MAX_REFUSAL}
 use Rattle.trace_model.specs.Operands.{◌>>=◌, is_between, is_name, is_forged, hex_word, number_at, offset_at, count_at, refusal_at, name_at, letter_at, side_at, hex_from, hex_at}
-use Rattle.trace_model.specs.Plain.{Action, acquire, release, malloc, free, poke, peek, heap, refuse, other, keyword_text, action_of, keyword_among, keyword_of, operands_of, text_at, Fits, honest_poke, malloc_at, free_at, poke_at, peek_at, refuse_at, action_at}
+use Rattle.trace_model.specs.Plain.{Action, acquire, release, malloc, calloc, realloc, free, poke, peek, heap, refuse, other, keyword_text, action_of, keyword_among, keyword_of, operands_of, text_at, Fits, honest_poke, malloc_at, calloc_at, realloc_at, free_at, poke_at, peek_at, refuse_at, action_at}
 use Rattle.trace_model.specs.Known.{IsKnown, IsKnownOp}
 use Rattle.trace_model.specs.Spelling.{words_after, line_of}
 use Rattle.trace_model.specs.Reading.{head_at}
@@ -31,6 +31,8 @@ pub keyword_again : (k : Keyword) → (head_at (keyword_text k) ≡ Ok (heads.Op
 keyword_again keys.Acquire = (refl, refl)
 keyword_again keys.Release = (refl, refl)
 keyword_again keys.Malloc = (refl, refl)
+keyword_again keys.Calloc = (refl, refl)
+keyword_again keys.Realloc = (refl, refl)
 keyword_again keys.Free = (refl, refl)
 keyword_again keys.Poke = (refl, refl)
 keyword_again keys.Peek = (refl, refl)
@@ -61,6 +63,29 @@ malloc_takes letter name size a e =
     let lt = letter_takes letter l.0 l.1 in
     let nt = number_takes size n.0 n.1 in
     subst (Spells keys.Malloc (letter ∷ name ∷ size ∷ [])) (ok_is (malloc l.0 name n.0) a n.2) (refl, (λ i. sym lt i ∷ name ∷ sym nt.0 i ∷ []), (name_takes name u.0 u.1, nt.1))
+
+calloc_takes : (letter name count size : List ℕ) (a : Action) → calloc_at letter name count size ≡ Ok a → Spells keys.Calloc (letter ∷ name ∷ count ∷ size ∷ []) a
+unfolding calloc_at
+calloc_takes letter name count size a e =
+    let l = bind_ok (letter_at letter) (λ l. name_at name >>= λ u. number_at count >>= λ k. number_at size >>= λ n. Ok (calloc l name k n)) a e in
+    let u = bind_ok (name_at name) (λ u. number_at count >>= λ k. number_at size >>= λ n. Ok (calloc l.0 name k n)) a l.2 in
+    let k = bind_ok (number_at count) (λ k. number_at size >>= λ n. Ok (calloc l.0 name k n)) a u.2 in
+    let n = bind_ok (number_at size) (λ n. Ok (calloc l.0 name k.0 n)) a k.2 in
+    let lt = letter_takes letter l.0 l.1 in
+    let kt = number_takes count k.0 k.1 in
+    let nt = number_takes size n.0 n.1 in
+    subst (Spells keys.Calloc (letter ∷ name ∷ count ∷ size ∷ [])) (ok_is (calloc l.0 name k.0 n.0) a n.2)
+    (refl, (λ i. sym lt i ∷ name ∷ sym kt.0 i ∷ sym nt.0 i ∷ []), (name_takes name u.0 u.1, kt.1, nt.1))
+
+realloc_takes : (letter name size : List ℕ) (a : Action) → realloc_at letter name size ≡ Ok a → Spells keys.Realloc (letter ∷ name ∷ size ∷ []) a
+unfolding realloc_at
+realloc_takes letter name size a e =
+    let l = bind_ok (letter_at letter) (λ l. name_at name >>= λ u. number_at size >>= λ n. Ok (realloc l name n)) a e in
+    let u = bind_ok (name_at name) (λ u. number_at size >>= λ n. Ok (realloc l.0 name n)) a l.2 in
+    let n = bind_ok (number_at size) (λ n. Ok (realloc l.0 name n)) a u.2 in
+    let lt = letter_takes letter l.0 l.1 in
+    let nt = number_takes size n.0 n.1 in
+    subst (Spells keys.Realloc (letter ∷ name ∷ size ∷ [])) (ok_is (realloc l.0 name n.0) a n.2) (refl, (λ i. sym lt i ∷ name ∷ sym nt.0 i ∷ []), (name_takes name u.0 u.1, nt.1))
 
 free_takes : (letter name : List ℕ) (a : Action) → free_at letter name ≡ Ok a → Spells keys.Free (letter ∷ name ∷ []) a
 unfolding free_at
@@ -112,6 +137,17 @@ action_takes keys.Malloc (w ∷ []) a e = absurd cc
 action_takes keys.Malloc (w ∷ x ∷ []) a e = absurd cc
 action_takes keys.Malloc (w ∷ x ∷ y ∷ z ∷ ws) a e = absurd cc
 action_takes keys.Malloc (letter ∷ name ∷ size ∷ []) a e = malloc_takes letter name size a e
+action_takes keys.Calloc [] a e = absurd cc
+action_takes keys.Calloc (w ∷ []) a e = absurd cc
+action_takes keys.Calloc (w ∷ x ∷ []) a e = absurd cc
+action_takes keys.Calloc (w ∷ x ∷ y ∷ []) a e = absurd cc
+action_takes keys.Calloc (w ∷ x ∷ y ∷ z ∷ v ∷ ws) a e = absurd cc
+action_takes keys.Calloc (letter ∷ name ∷ count ∷ size ∷ []) a e = calloc_takes letter name count size a e
+action_takes keys.Realloc [] a e = absurd cc
+action_takes keys.Realloc (w ∷ []) a e = absurd cc
+action_takes keys.Realloc (w ∷ x ∷ []) a e = absurd cc
+action_takes keys.Realloc (w ∷ x ∷ y ∷ z ∷ ws) a e = absurd cc
+action_takes keys.Realloc (letter ∷ name ∷ size ∷ []) a e = realloc_takes letter name size a e
 action_takes keys.Free [] a e = absurd cc
 action_takes keys.Free (w ∷ []) a e = absurd cc
 action_takes keys.Free (w ∷ x ∷ y ∷ ws) a e = absurd cc
@@ -150,11 +186,23 @@ pub record Spelt (a : Action) : Type 0 where
   pub words : AllByRecursion (λ w. is_word w ≡ true) (operands_of a)
 
 pub action_again : (a : Action) → Fits a → Spelt a
-unfolding action_at malloc_at free_at poke_at peek_at refuse_at
+unfolding action_at malloc_at calloc_at realloc_at free_at poke_at peek_at refuse_at
 action_again acquire fits = record { keyword = keys.Acquire; is = refl; read = refl; words = tt }
 action_again release fits = record { keyword = keys.Release; is = refl; read = refl; words = tt }
 action_again (malloc letter name size) fits = record {
   keyword = keys.Malloc;
+  is = refl;
+  read = rw (letter_again letter, name_again name fits.0, number_again size fits.1) refl;
+  words = (letter_is_word letter, (name_word name fits.0, (number_word size fits.1, tt)));
+}
+action_again (calloc letter name count size) fits = record {
+  keyword = keys.Calloc;
+  is = refl;
+  read = rw (letter_again letter, name_again name fits.0, number_again count fits.1, number_again size fits.2) refl;
+  words = (letter_is_word letter, (name_word name fits.0, (number_word count fits.1, (number_word size fits.2, tt))));
+}
+action_again (realloc letter name size) fits = record {
+  keyword = keys.Realloc;
   is = refl;
   read = rw (letter_again letter, name_again name fits.0, number_again size fits.1) refl;
   words = (letter_is_word letter, (name_word name fits.0, (number_word size fits.1, tt)));
@@ -210,6 +258,8 @@ action_stays : (texts more : List Name) (op : Op) → IsKnownOp texts op → act
 action_stays texts more code.Acquire known = refl
 action_stays texts more code.Release known = refl
 action_stays texts more (code.Malloc letter name size) known = ap (λ (n : Name). malloc letter n size) (text_stays texts more name known)
+action_stays texts more (code.Calloc letter name count size) known = ap (λ (n : Name). calloc letter n count size) (text_stays texts more name known)
+action_stays texts more (code.Realloc letter name size) known = ap (λ (n : Name). realloc letter n size) (text_stays texts more name known)
 action_stays texts more (code.Free letter name) known = ap (λ (n : Name). free letter n) (text_stays texts more name known)
 action_stays texts more (code.Poke name offset bytes) known = ap (λ (n : Name). poke n offset bytes) (text_stays texts more name known.0)
 action_stays texts more (code.Peek name offset count) known = ap (λ (n : Name). peek n offset count) (text_stays texts more name known.0)
@@ -221,6 +271,8 @@ op_stays : (texts more : List Name) (op : Op) → IsKnownOp texts op → IsKnown
 op_stays texts more code.Acquire known = tt
 op_stays texts more code.Release known = tt
 op_stays texts more (code.Malloc letter name size) known = known_stays texts more name known
+op_stays texts more (code.Calloc letter name count size) known = known_stays texts more name known
+op_stays texts more (code.Realloc letter name size) known = known_stays texts more name known
 op_stays texts more (code.Free letter name) known = known_stays texts more name known
 op_stays texts more (code.Poke name offset bytes) known = (known_stays texts more name known.0, known.1, known.2, known.3)
 op_stays texts more (code.Peek name offset count) known = (known_stays texts more name known.0, known.1, known.2, known.3)

@@ -27,6 +27,8 @@ pub data Action : Type 0 where
   acquire : Action
   release : Action
   malloc : Letter → Name → ℕ → Action
+  calloc : Letter → Name → ℕ → ℕ → Action
+  realloc : Letter → Name → ℕ → Action
   free : Letter → Name → Action
   poke : Name → ℤ → List ℕ → Action
   peek : Name → ℤ → ℕ → Action
@@ -54,8 +56,8 @@ abbrev pub action_of : List Name → Op → Action
 action_of texts code.Acquire = acquire
 action_of texts code.Release = release
 action_of texts (code.Malloc letter name size) = malloc letter (text_at texts name) size
-action_of texts (code.Calloc letter name count size) = other
-action_of texts (code.Realloc letter name size) = other
+action_of texts (code.Calloc letter name count size) = calloc letter (text_at texts name) count size
+action_of texts (code.Realloc letter name size) = realloc letter (text_at texts name) size
 action_of texts (code.Free letter name) = free letter (text_at texts name)
 action_of texts (code.Poke name offset bytes) = poke (text_at texts name) offset bytes
 action_of texts (code.Peek name offset count) = peek (text_at texts name) offset count
@@ -96,8 +98,8 @@ abbrev pub IsKnownAmong : ℕ → Op → Type 0
 IsKnownAmong texts code.Acquire = Unit {0}
 IsKnownAmong texts code.Release = Unit {0}
 IsKnownAmong texts (code.Malloc letter name size) = name.0 < texts
-IsKnownAmong texts (code.Calloc letter name count size) = ⊥
-IsKnownAmong texts (code.Realloc letter name size) = ⊥
+IsKnownAmong texts (code.Calloc letter name count size) = name.0 < texts
+IsKnownAmong texts (code.Realloc letter name size) = name.0 < texts
 IsKnownAmong texts (code.Free letter name) = name.0 < texts
 IsKnownAmong texts (code.Poke name offset bytes) = (name.0 < texts) × IsOffset offset × (1 ≤ length bytes) × (length bytes ≤ MAX_REACH)
 IsKnownAmong texts (code.Peek name offset count) = (name.0 < texts) × IsOffset offset × (1 ≤ count) × (count ≤ MAX_REACH)
@@ -127,6 +129,8 @@ abbrev pub keyword_text : Keyword → List ℕ
 keyword_text keys.Acquire = codes "acquire"
 keyword_text keys.Release = codes "release"
 keyword_text keys.Malloc = codes "malloc"
+keyword_text keys.Calloc = codes "calloc"
+keyword_text keys.Realloc = codes "realloc"
 keyword_text keys.Free = codes "free"
 keyword_text keys.Poke = codes "poke"
 keyword_text keys.Peek = codes "peek"
@@ -135,7 +139,9 @@ keyword_text keys.Refuse = codes "refuse"
 
 -- all keywords
 abbrev pub keywords : List Keyword
-keywords = keys.Acquire ∷ keys.Release ∷ keys.Malloc ∷ keys.Free ∷ keys.Poke ∷ keys.Peek ∷ keys.Heap ∷ keys.Refuse ∷ []
+keywords =
+    keys.Acquire ∷ keys.Release ∷ keys.Malloc ∷ keys.Calloc ∷ keys.Realloc ∷ keys.Free ∷ keys.Poke ∷ keys.Peek
+    ∷ keys.Heap ∷ keys.Refuse ∷ []
 
 -- the one of these keywords whose text this is
 abbrev pub keyword_among : List Keyword → List ℕ → Result Keyword TraceCause
@@ -147,6 +153,8 @@ abbrev pub prints_more : Keyword → Bool
 prints_more keys.Acquire = false
 prints_more keys.Release = false
 prints_more keys.Malloc = false
+prints_more keys.Calloc = false
+prints_more keys.Realloc = false
 prints_more keys.Free = false
 prints_more keys.Poke = false
 prints_more keys.Peek = false
@@ -160,6 +168,8 @@ abbrev pub keyword_of : Action → Option Keyword
 keyword_of acquire = Some keys.Acquire
 keyword_of release = Some keys.Release
 keyword_of (malloc letter name size) = Some keys.Malloc
+keyword_of (calloc letter name count size) = Some keys.Calloc
+keyword_of (realloc letter name size) = Some keys.Realloc
 keyword_of (free letter name) = Some keys.Free
 keyword_of (poke name offset bytes) = Some keys.Poke
 keyword_of (peek name offset count) = Some keys.Peek
@@ -172,6 +182,8 @@ abbrev pub name_of : Action → Option Name
 name_of acquire = None
 name_of release = None
 name_of (malloc letter name size) = Some name
+name_of (calloc letter name count size) = Some name
+name_of (realloc letter name size) = Some name
 name_of (free letter name) = Some name
 name_of (poke name offset bytes) = Some name
 name_of (peek name offset count) = Some name
@@ -188,6 +200,8 @@ abbrev pub operands_of : Action → List (List ℕ)
 operands_of acquire = []
 operands_of release = []
 operands_of (malloc letter name size) = letter_word letter ∷ name ∷ decimal size ∷ []
+operands_of (calloc letter name count size) = letter_word letter ∷ name ∷ decimal count ∷ decimal size ∷ []
+operands_of (realloc letter name size) = letter_word letter ∷ name ∷ decimal size ∷ []
 operands_of (free letter name) = letter_word letter ∷ name ∷ []
 operands_of (poke name offset bytes) = name ∷ signed_decimal offset ∷ hex_word bytes ∷ []
 operands_of (peek name offset count) = name ∷ signed_decimal offset ∷ decimal count ∷ []
@@ -209,6 +223,8 @@ abbrev pub Fits : Action → Type 0
 Fits acquire = Unit {0}
 Fits release = Unit {0}
 Fits (malloc letter name size) = IsTrue (is_name name) × (size < 2 ^ 64)
+Fits (calloc letter name count size) = IsTrue (is_name name) × (count < 2 ^ 64) × (size < 2 ^ 64)
+Fits (realloc letter name size) = IsTrue (is_name name) × (size < 2 ^ 64)
 Fits (free letter name) = IsTrue (is_name name)
 Fits (poke name offset bytes) = FitsPoke name offset bytes
 Fits (peek name offset count) = IsTrue (is_name name) × IsOffset offset × (1 ≤ count) × (count ≤ MAX_REACH)
@@ -224,6 +240,21 @@ malloc_at letter name size = do
   u ← name_at name
   n ← number_at size
   Ok (malloc l name n)
+
+unfoldable pub calloc_at : List ℕ → List ℕ → List ℕ → List ℕ → Result Action TraceCause
+calloc_at letter name count size = do
+  l ← letter_at letter
+  u ← name_at name
+  k ← number_at count
+  n ← number_at size
+  Ok (calloc l name k n)
+
+unfoldable pub realloc_at : List ℕ → List ℕ → List ℕ → Result Action TraceCause
+realloc_at letter name size = do
+  l ← letter_at letter
+  u ← name_at name
+  n ← number_at size
+  Ok (realloc l name n)
 
 unfoldable pub free_at : List ℕ → List ℕ → Result Action TraceCause
 free_at letter name = do
@@ -263,6 +294,10 @@ action_at keys.Release [] = Ok release
 action_at keys.Release ws = Err BadWords
 action_at keys.Malloc (letter ∷ name ∷ size ∷ []) = malloc_at letter name size
 action_at keys.Malloc ws = Err BadWords
+action_at keys.Calloc (letter ∷ name ∷ count ∷ size ∷ []) = calloc_at letter name count size
+action_at keys.Calloc ws = Err BadWords
+action_at keys.Realloc (letter ∷ name ∷ size ∷ []) = realloc_at letter name size
+action_at keys.Realloc ws = Err BadWords
 action_at keys.Free (letter ∷ name ∷ []) = free_at letter name
 action_at keys.Free ws = Err BadWords
 action_at keys.Poke (name ∷ offset ∷ digits ∷ []) = poke_at name offset digits

@@ -16,6 +16,8 @@ pub enum Keyword {
     Acquire,
     Release,
     Malloc,
+    Calloc,
+    Realloc,
     Free,
     Poke,
     Peek,
@@ -34,13 +36,15 @@ pub enum Head {
 
 impl Keyword {
     /// All keywords.
-    pub fn all() -> [Keyword; 8]
+    pub fn all() -> [Keyword; 10]
         ensures { result ≡ keywords }
     {
         [
             Keyword::Acquire,
             Keyword::Release,
             Keyword::Malloc,
+            Keyword::Calloc,
+            Keyword::Realloc,
             Keyword::Free,
             Keyword::Poke,
             Keyword::Peek,
@@ -57,6 +61,8 @@ impl Keyword {
             Keyword::Acquire => "acquire",
             Keyword::Release => "release",
             Keyword::Malloc => "malloc",
+            Keyword::Calloc => "calloc",
+            Keyword::Realloc => "realloc",
             Keyword::Free => "free",
             Keyword::Poke => "poke",
             Keyword::Peek => "peek",
@@ -75,6 +81,8 @@ impl Keyword {
             Keyword::Acquire
             | Keyword::Release
             | Keyword::Malloc
+            | Keyword::Calloc
+            | Keyword::Realloc
             | Keyword::Free
             | Keyword::Poke
             | Keyword::Peek
@@ -90,14 +98,14 @@ impl Keyword {
             Op::Acquire => Some(Keyword::Acquire),
             Op::Release => Some(Keyword::Release),
             Op::Malloc(_, _, _) => Some(Keyword::Malloc),
+            Op::Calloc(_, _, _, _) => Some(Keyword::Calloc),
+            Op::Realloc(_, _, _) => Some(Keyword::Realloc),
             Op::Free(_, _) => Some(Keyword::Free),
             Op::Poke(_, _, _) => Some(Keyword::Poke),
             Op::Peek(_, _, _) => Some(Keyword::Peek),
             Op::Heap => Some(Keyword::Heap),
             Op::Refuse(_, _) => Some(Keyword::Refuse),
-            Op::Calloc(_, _, _, _)
-            | Op::Realloc(_, _, _)
-            | Op::Enter(_, _)
+            Op::Enter(_, _)
             | Op::Line(_)
             | Op::Leave
             | Op::Start(_)
@@ -136,14 +144,16 @@ pub fn name_of(op: &Op) -> Option<TextId>
     ensures known { (texts : ℕ) → IsKnownAmong texts op.now → IfSome result (λ id. id.0 < texts) }
 {
     match op {
-        Op::Malloc(_, name, _) | Op::Free(_, name) | Op::Poke(name, _, _) | Op::Peek(name, _, _) =>
-            { Some(*name) }
+        Op::Malloc(_, name, _)
+        | Op::Calloc(_, name, _, _)
+        | Op::Realloc(_, name, _)
+        | Op::Free(_, name)
+        | Op::Poke(name, _, _)
+        | Op::Peek(name, _, _) => Some(*name),
         Op::Acquire
         | Op::Release
         | Op::Heap
         | Op::Refuse(_, _)
-        | Op::Calloc(_, _, _, _)
-        | Op::Realloc(_, _, _)
         | Op::Enter(_, _)
         | Op::Line(_)
         | Op::Leave

@@ -14,6 +14,8 @@
 //! |---|---|
 //! | `acquire`, `release` | none |
 //! | `malloc D NAME NUM` | domain, block, size |
+//! | `calloc D NAME NUM NUM` | domain, block, how many elements, size of each |
+//! | `realloc D NAME NUM` | domain, block, size |
 //! | `free D NAME` | domain, block |
 //! | `poke NAME OFF HEX` | block, offset from -8 on, 1 to 1024 bytes |
 //! | `peek NAME OFF NUM` | block, offset from -8 on, 1 to 1024 |

@@ -3,7 +3,7 @@
 ghost use Rattle.std.specs.Prelude.{◌≡◌, ◌-◌, ◌<◌, ◌^◌, length, map, IfOk, slice_get, Some, Ok, Err, if◌then◌else◌};
 ghost use Rattle.mem_base.specs.Name.{Name};
 ghost use Rattle.trace_model.specs.Operands.{is_forged};
-ghost use Rattle.trace_model.specs.Plain.{action_of, malloc_at, free_at, poke_at, peek_at, refuse_at, action_at};
+ghost use Rattle.trace_model.specs.Plain.{action_of, malloc_at, calloc_at, realloc_at, free_at, poke_at, peek_at, refuse_at, action_at};
 ghost use Rattle.trace_model.specs.Known.{IsKnown, IsKnownOp};
 ghost use Rattle.trace_model.specs.declared.cause.TraceCause.TheVariants.{ForgedLetter};
 ghost use Rattle.trace_reader.specs.Answers.{Gives};
@@ -37,6 +37,40 @@ fn malloc(texts: &mut Texts, domain: &[u8], block: &[u8], size: &[u8]) -> Result
     name(block)?;
     let size = number(size)?;
     Ok(Op::Malloc(domain, intern(texts, block)?, size))
+}
+
+#[tactic(auto, unfolding(trace_model::specs::Plain::calloc_at))]
+fn calloc(
+    texts: &mut Texts,
+    domain: &[u8],
+    block: &[u8],
+    elements: &[u8],
+    size: &[u8],
+) -> Result<Op, LineError>
+    requires { length texts.old < 2 ^ 32 - 1 }
+    ensures grows { Extends texts.old texts.new }
+    ensures op { Gives (action_of texts.new) result
+        (calloc_at domain.now block.now elements.now size.now) }
+    ensures known { IfOk result (IsKnownOp texts.new) }
+{
+    let domain = letter(domain)?;
+    name(block)?;
+    let elements = number(elements)?;
+    let size = number(size)?;
+    Ok(Op::Calloc(domain, intern(texts, block)?, elements, size))
+}
+
+#[tactic(auto, unfolding(trace_model::specs::Plain::realloc_at))]
+fn realloc(texts: &mut Texts, domain: &[u8], block: &[u8], size: &[u8]) -> Result<Op, LineError>
+    requires { length texts.old < 2 ^ 32 - 1 }
+    ensures grows { Extends texts.old texts.new }
+    ensures op { Gives (action_of texts.new) result (realloc_at domain.now block.now size.now) }
+    ensures known { IfOk result (IsKnownOp texts.new) }
+{
+    let domain = letter(domain)?;
+    name(block)?;
+    let size = number(size)?;
+    Ok(Op::Realloc(domain, intern(texts, block)?, size))
 }
 
 #[tactic(auto, unfolding(trace_model::specs::Plain::free_at))]
@@ -121,6 +155,10 @@ pub fn read_op(
         (Keyword::Acquire, []) => Ok(Op::Acquire),
         (Keyword::Release, []) => Ok(Op::Release),
         (Keyword::Malloc, [domain, block, size]) => malloc(texts, domain, block, size),
+        (Keyword::Calloc, [domain, block, elements, size]) => {
+            calloc(texts, domain, block, elements, size)
+        }
+        (Keyword::Realloc, [domain, block, size]) => realloc(texts, domain, block, size),
         (Keyword::Free, [domain, block]) => free(texts, domain, block),
         (Keyword::Poke, [block, at, digits]) => poke(alloc, texts, block, at, digits),
         (Keyword::Peek, [block, at, size]) => peek(texts, block, at, size),
@@ -130,6 +168,8 @@ pub fn read_op(
             Keyword::Acquire
             | Keyword::Release
             | Keyword::Malloc
+            | Keyword::Calloc
+            | Keyword::Realloc
             | Keyword::Free
             | Keyword::Poke
             | Keyword::Peek

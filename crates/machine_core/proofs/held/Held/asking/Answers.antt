@@ -2,13 +2,13 @@ use Rattle.std.proofs.Common.{◌<◌, length, refl, sym, subst}
 use Rattle.mem_base.specs.declared.trace.Side.TheVariants as sides
 use Rattle.request_model.specs.Counts.{arena_asks, arena_refusals, raw_asks, raw_refusals}
 use Rattle.trace_model.specs.Plain.{IsKnownAmong}
-use Rattle.event_model.specs.Memory.{malloc_call}
+use Rattle.event_model.specs.Memory.{calloc_call, malloc_call, realloc_call}
 use Rattle.event_model.specs.State.{is_owner}
 use Rattle.block_store.specs.declared.answer.Answer.{Answer}
 use Rattle.machine_core.specs.Acts.{Acts, Asks}
 use Rattle.machine_core.specs.declared.held.Held.{Held as Holding}
 use Rattle.machine_core.proofs.ActLemmas.{held_told, nothing_fails, nothing_fails_unrefused, on_err, told_asks}
-use Rattle.machine_core.proofs.HeldLemmas.{IsCallFor, call_is, free_acts, is_malloc, sized_does}
+use Rattle.machine_core.proofs.HeldLemmas.{IsCallFor, call_is, free_acts, is_calloc, is_malloc, is_realloc, sized_does}
 use Rattle.machine_core.proofs.held.Held.asking.Goals as goal
 
 pub returns-in-Malloc-clause-acts : goal.returns-in-Malloc-clause-acts
@@ -19,6 +19,24 @@ returns-in-Malloc-clause-acts g c =
     let of = call_is (λ v. malloc_call v c.in-Malloc.size) c.in-Malloc.letter (is_owner old.owner c.args.t) call c.call-call.ensures in
     sized_does c.args.t c.args.op.now old (record { store = c.malloc.new.self; owner = old.owner }) c.in-Malloc.name (malloc_call call.letter c.in-Malloc.size) call.locked c.malloc.result refl
     (subst (IsCallFor c.args.op.now c.in-Malloc.name) (sym of.0) (is_malloc c.args.op.now c.in-Malloc.letter c.in-Malloc.name c.in-Malloc.size c.in-Malloc.is)) of.1 known c.malloc.ensures.turn c.malloc.ensures.fits
+
+pub returns-in-Calloc-clause-acts : goal.returns-in-Calloc-clause-acts
+returns-in-Calloc-clause-acts g c =
+    let old = c.args.self.now in
+    let known : c.in-Calloc.name.0 < length old.store.blocks = subst (IsKnownAmong (length old.store.blocks)) c.in-Calloc.is c.requires.known in
+    let call = c.call-call-in-Calloc.result in
+    let of = call_is (λ v. calloc_call v c.in-Calloc.elements c.in-Calloc.size) c.in-Calloc.letter (is_owner old.owner c.args.t) call c.call-call-in-Calloc.ensures in
+    sized_does c.args.t c.args.op.now old (record { store = c.calloc.new.self; owner = old.owner }) c.in-Calloc.name (calloc_call call.letter c.in-Calloc.elements c.in-Calloc.size) call.locked c.calloc.result refl
+    (subst (IsCallFor c.args.op.now c.in-Calloc.name) (sym of.0) (is_calloc c.args.op.now c.in-Calloc.letter c.in-Calloc.name c.in-Calloc.elements c.in-Calloc.size c.in-Calloc.is)) of.1 known c.calloc.ensures.turn c.calloc.ensures.fits
+
+pub returns-in-Realloc-clause-acts : goal.returns-in-Realloc-clause-acts
+returns-in-Realloc-clause-acts g c =
+    let old = c.args.self.now in
+    let known : c.in-Realloc.name.0 < length old.store.blocks = subst (IsKnownAmong (length old.store.blocks)) c.in-Realloc.is c.requires.known in
+    let call = c.call-call-in-Realloc.result in
+    let of = call_is (λ v. realloc_call v c.in-Realloc.size) c.in-Realloc.letter (is_owner old.owner c.args.t) call c.call-call-in-Realloc.ensures in
+    sized_does c.args.t c.args.op.now old (record { store = c.realloc.new.self; owner = old.owner }) c.in-Realloc.name (realloc_call call.letter c.in-Realloc.size) call.locked c.realloc.result refl
+    (subst (IsCallFor c.args.op.now c.in-Realloc.name) (sym of.0) (is_realloc c.args.op.now c.in-Realloc.letter c.in-Realloc.name c.in-Realloc.size c.in-Realloc.is)) of.1 known c.realloc.ensures.turn c.realloc.ensures.fits
 
 pub returns-in-Free-clause-acts : goal.returns-in-Free-clause-acts
 returns-in-Free-clause-acts g c =
