@@ -5,7 +5,7 @@ use Rattle.std.proofs.lemmas.List.Sums.{sum_by-cons}
 use Rattle.mem_base.specs.declared.reply.Counts.{Counts}
 use Rattle.extents.specs.Extent.{Extent}
 use Rattle.extents.specs.Sums.{tally, Has}
-use Rattle.extents.proofs.Lists.{has_left, tally-append, tally_zero}
+use Rattle.extents.proofs.CallerLemmas.{has_left, tally-append, tally_zero}
 use Rattle.debug_guard.specs.Guard.{Guard}
 use Rattle.layout_model.specs.View.{shape_of}
 use Rattle.event_model.specs.Blocks.{Block, Home, in_pool, pool_times, raw_times}

@@ -5,8 +5,7 @@ use Rattle.std.proofs.lemmas.Bool.{le-leb, leb-true, lt-ltb, ltb-true}
 use Rattle.std.proofs.lemmas.Bool.Decides.{eqb_tells}
 use Rattle.extents.specs.Extent.{Extent, Window, AreApart, covers, spans}
 use Rattle.extents.specs.Sums.{tally, Has}
-use Rattle.extents.proofs.Addresses.{covers_in, covers_most, lies_spans, spans_tells}
-use Rattle.extents.proofs.Lists.{tally-append, tally_zero}
+use Rattle.extents.proofs.CallerLemmas.{covers_in, covers_most, lies_spans, spans_tells, tally-append, tally_zero}
 use Rattle.raw_region.specs.Region.{PieceView}
 use Rattle.mem_base.specs.declared.history.Grant.{Grant}
 use Rattle.sources.specs.Source.{ArenaShape, SourceView}

@@ -7,7 +7,7 @@ use Rattle.std.proofs.lemmas.List.{get_or-set_same, get_or-set_other, map-set}
 use Rattle.mem_base.specs.declared.trace.Letter.{Letter}
 use Rattle.extents.specs.Extent.{Extent}
 use Rattle.extents.specs.Sums.{Has, Inserted, Removed}
-use Rattle.extents.proofs.Lists.{has_either, has_left, has_right, inserted_left, inserted_right}
+use Rattle.extents.proofs.CallerLemmas.{has_either, has_left, has_right, inserted_left, inserted_right}
 use Rattle.sources.specs.Source.{ArenaShape, SourceView}
 use Rattle.debug_guard.specs.Guard.{Guard, guard_extent}
 use Rattle.py_heap.specs.Heap.{HeapView, empty_heap}

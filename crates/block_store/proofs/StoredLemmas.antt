@@ -8,8 +8,7 @@ use Rattle.std.specs.Int.{to_be_bytes, w64}
 use Rattle.block_model.specs.Block.{image_of, size_of}
 use Rattle.extents.specs.Extent.{Extent, AreApart, covers}
 use Rattle.extents.specs.Sums.{tally, AllIn, Has, Inserted, Removed}
-use Rattle.extents.proofs.Addresses.{all_in_fewer}
-use Rattle.extents.proofs.Lists.{all_in_more, inserted_first, inserted_under, tally_has, tally_inserted}
+use Rattle.extents.proofs.CallerLemmas.{all_in_fewer, all_in_more, inserted_first, inserted_under, tally_has, tally_inserted}
 use Rattle.debug_guard.specs.Guard.{Guard, guard_extent}
 use Rattle.block_store.specs.Slots.{IsStored, extents_of}
 

@@ -16,7 +16,7 @@ use Rattle.mem_base.specs.declared.trace.Letter.{Letter}
 use Rattle.block_model.specs.Block.{body_of, finding_in, fresh, image_of, reaches, peeked, poked}
 use Rattle.raw_region.specs.Region.{PieceView}
 use Rattle.extents.specs.Extent.{Extent}
-use Rattle.extents.proofs.Lists.{has_new}
+use Rattle.extents.proofs.CallerLemmas.{has_new}
 use Rattle.sources.specs.Source.{ArenaShape, SourceView}
 use Rattle.debug_guard.specs.Guard.{Guard, guard_extent, piece_of}
 use Rattle.layout_model.specs.Asks.{FitsRequest, Request, raw_was_asked}

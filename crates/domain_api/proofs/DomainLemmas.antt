@@ -12,8 +12,7 @@ use Rattle.layout_model.specs.Layout.{Layout}
 use Rattle.layout_model.specs.Sizes.{class_of, is_small}
 use Rattle.extents.specs.Extent.{Extent, Window, AreDisjoint, LiesIn, covers, piece_extent, spans}
 use Rattle.extents.specs.Sums.{tally, Has, Inserted, Removed}
-use Rattle.extents.proofs.Addresses.{covers_in, covers_most, lies_spans}
-use Rattle.extents.proofs.Lists.{has_kept, has_more, has_new, length_inserted, tally_has, tally_zero}
+use Rattle.extents.proofs.CallerLemmas.{covers_in, covers_most, lies_spans, has_kept, has_more, has_new, length_inserted, tally_has, tally_zero}
 use Rattle.sources.specs.Holder.{Answered, AskedAtMostOnce, AskedUnrefused, Traded}
 use Rattle.sources.specs.Source.{ArenaShape, SourceView}
 use Rattle.sources.proofs.CallerLemmas.{traded_nothing, unrefused_nothing}

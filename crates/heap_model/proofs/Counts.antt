@@ -3,7 +3,7 @@ use Rattle.std.proofs.Common.{◌≡◌, ◌≢◌, ◌⊎◌, ℕ, suc, ◌+◌
 use Rattle.std.proofs.lemmas.Bool.Decides.{eqb_tells}
 use Rattle.std.specs.List.{range_with_len}
 use Rattle.extents.specs.Sums.{tally, Has, Inserted, Removed, Replaced}
-use Rattle.extents.proofs.Lists.{tally_zero, tally_has, tally_inserted, tally_replaced, length_inserted, removed_has}
+use Rattle.extents.proofs.CallerLemmas.{tally_zero, tally_has, tally_inserted, tally_replaced, length_inserted, removed_has}
 use Rattle.layout_model.specs.Layout.{Usable, Used}
 use Rattle.layout_model.specs.Sizes.{capacity}
 use Rattle.layout_model.specs.Sound.{is_arena, has_arena, full_arena, free_in, total_in, total_or, dry_times, pools_of, HasTotal}

@@ -4,7 +4,7 @@ use Rattle.std.proofs.lemmas.Bool.Decides.{eqb_tells, leb_tells}
 use Rattle.std.proofs.lemmas.List.{get_or_past, length-map}
 use Rattle.std.proofs.lemmas.List.FromFn.{length-map-range_with_len}
 use Rattle.extents.specs.Sums.{tally, Has}
-use Rattle.extents.proofs.Lists.{tally-append, tally_at, tally_zero}
+use Rattle.extents.proofs.CallerLemmas.{tally-append, tally_at, tally_zero}
 use Rattle.layout_model.specs.Layout.{Used}
 use Rattle.layout_model.specs.Sizes.{capacity}
 use Rattle.layout_model.specs.Sound.{is_pool, pool_times, full_times}

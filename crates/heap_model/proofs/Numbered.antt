@@ -5,7 +5,7 @@ use Rattle.std.proofs.lemmas.List.{set-get_or}
 use Rattle.std.specs.List.{range_with_len}
 use Rattle.std.proofs.lemmas.List.FromFn.{get_or-map-range_with_len, map-range_with_len_more}
 use Rattle.extents.specs.Sums.{tally, Inserted, Removed, Replaced}
-use Rattle.extents.proofs.Lists.{tally_inserted}
+use Rattle.extents.proofs.CallerLemmas.{tally_inserted}
 use Rattle.layout_model.specs.Geometry.{PoolLine}
 use Rattle.heap_model.specs.View.{pick}
 use Rattle.heap_model.specs.Kept.{has_number}

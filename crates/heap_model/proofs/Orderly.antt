@@ -3,7 +3,7 @@ use Rattle.std.proofs.Common.{◌≡◌, ◌≢◌, ℕ, ◌+◌, ◌<◌, ◌�
 use Rattle.std.proofs.lemmas.Bool.Decides.{eqb_tells}
 use Rattle.std.proofs.lemmas.List.{get_or-set_same, get_or-set_other, length-set}
 use Rattle.extents.specs.Sums.{tally, Has, Inserted, Removed, Replaced}
-use Rattle.extents.proofs.Lists.{tally_zero, tally_inserted, tally_replaced, has_new, has_kept, has_more}
+use Rattle.extents.proofs.CallerLemmas.{tally_zero, tally_inserted, tally_replaced, has_new, has_kept, has_more}
 use Rattle.layout_model.specs.Sizes.{capacity}
 use Rattle.layout_model.proofs.CallerLemmas.{many}
 use Rattle.layout_model.specs.Geometry.{PoolLine}

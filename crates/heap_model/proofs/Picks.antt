@@ -5,7 +5,7 @@ use Rattle.std.proofs.lemmas.Bool.Decides.{eqb_tells}
 use Rattle.std.specs.List.{range_with_len}
 use Rattle.std.proofs.lemmas.List.FromFn.{length-map-range_with_len, get_or-map-range_with_len}
 use Rattle.extents.specs.Sums.{tally, Has, Inserted}
-use Rattle.extents.proofs.Lists.{tally-append, removed_has}
+use Rattle.extents.proofs.CallerLemmas.{tally-append, removed_has}
 use Rattle.heap_model.specs.View.{pick}
 
 module _ {X Y : Type 0} where

@@ -23,7 +23,7 @@ use Rattle.heap_model.proofs.Orderly.{has_before, has_after, pool_changed, pool_
 use Rattle.heap_model.proofs.Useds.{used_replaced, used_come, used_class, used_set, used_kept}
 use Rattle.heap_model.proofs.Places.{place_there, places_kept, places_come}
 use Rattle.heap_model.proofs.Numbered.{numbered_changed, numbered_stays, numbered_comes}
-use Rattle.extents.proofs.Lists.{tally_replaced, has_new}
+use Rattle.extents.proofs.CallerLemmas.{tally_replaced, has_new}
 use Rattle.std.proofs.lemmas.List.FromFn.{length-map-range_with_len}
 
 -- ---- what `place` makes of a list

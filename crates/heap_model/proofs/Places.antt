@@ -5,7 +5,7 @@ use Rattle.std.specs.List.{range_with_len}
 use Rattle.std.proofs.lemmas.List.FromFn.{length-map-range_with_len}
 use Rattle.std.proofs.lemmas.Bool.Decides.{leb_tells}
 use Rattle.extents.specs.Sums.{Has, Inserted, Removed, Replaced}
-use Rattle.extents.proofs.Lists.{has_new}
+use Rattle.extents.proofs.CallerLemmas.{has_new}
 use Rattle.layout_model.specs.Geometry.{PoolLine}
 use Rattle.heap_model.specs.Tables.{Tables}
 use Rattle.heap_model.specs.View.{place_in, places_of}

@@ -2,7 +2,7 @@
 use Rattle.std.proofs.Common.{◌≡◌, ◌≢◌, ℕ, ◌≤◌, ◌⊎◌, inl, inr, true, false, cond, eqb, List, [], ◌∷◌, ◌++◌, get_or, Some, refl, sym, ap, subst, ◌∙◌, arith}
 use Rattle.std.proofs.lemmas.Bool.Decides.{eqb_tells}
 use Rattle.extents.specs.Sums.{tally, Has, Inserted, Removed, Replaced}
-use Rattle.extents.proofs.Lists.{tally_has, tally_le, tally_zero}
+use Rattle.extents.proofs.CallerLemmas.{tally_has, tally_le, tally_zero}
 use Rattle.layout_model.specs.Sizes.{capacity}
 use Rattle.layout_model.specs.Geometry.{PoolLine}
 use Rattle.heap_model.specs.Tables.{Spot, spot_of, same_spot}

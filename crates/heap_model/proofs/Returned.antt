@@ -3,7 +3,7 @@ use Rattle.std.proofs.Common.{◌≡◌, ◌≢◌, ◌⊎◌, ℕ, ◌+◌, inl
 use Rattle.std.proofs.lemmas.Bool.Decides.{eqb_tells}
 use Rattle.std.proofs.lemmas.List.{map-append}
 use Rattle.extents.specs.Sums.{Has}
-use Rattle.extents.proofs.Lists.{has_new, has_either}
+use Rattle.extents.proofs.CallerLemmas.{has_new, has_either}
 use Rattle.layout_model.specs.Layout.{Layout, Usable, Used}
 use Rattle.layout_model.specs.Sizes.{capacity}
 use Rattle.layout_model.specs.Sound.{is_arena}

@@ -1,7 +1,7 @@
 -- Two changes of one element as one.
 use Rattle.std.proofs.Common.{◌≡◌, ℕ, ◌≤◌, List, [], ◌∷◌, ◌++◌, refl, sym, ap, subst, ◌∙◌, arith}
 use Rattle.extents.specs.Sums.{tally, Inserted, Removed, Replaced}
-use Rattle.extents.proofs.Lists.{tally-append}
+use Rattle.extents.proofs.CallerLemmas.{tally-append}
 
 module _ {X : Type 0} where
   same_first : (x y : X) (xs ys : List X) → x ∷ xs ≡ y ∷ ys → x ≡ y

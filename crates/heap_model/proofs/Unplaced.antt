@@ -3,7 +3,7 @@ use Rattle.std.proofs.Common.{◌≡◌, ◌≢◌, ℕ, zero, suc, ◌-◌, ◌
 use Rattle.std.proofs.lemmas.Bool.Decides.{eqb_tells}
 use Rattle.std.proofs.lemmas.List.{set-get_or, map-append}
 use Rattle.extents.specs.Sums.{tally, Has}
-use Rattle.extents.proofs.Lists.{tally-append, tally_replaced, has_left, removed_has}
+use Rattle.extents.proofs.CallerLemmas.{tally-append, tally_replaced, has_left, removed_has}
 use Rattle.layout_model.specs.Layout.{Layout, Used, Full}
 use Rattle.layout_model.specs.Sizes.{capacity}
 use Rattle.layout_model.specs.Sound.{IsSound}

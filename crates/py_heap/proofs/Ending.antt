@@ -6,22 +6,19 @@ use Rattle.raw_region.specs.Cells.{AllHome}
 use Rattle.raw_region.specs.Region.{RegionView}
 use Rattle.extents.specs.Sums.{tally, Has, Removed}
 use Rattle.extents.specs.Extent.{Extent, MeetsNone, covers, region_extent}
-use Rattle.extents.proofs.Addresses.{covers_in}
-use Rattle.extents.proofs.Lists.{tally_has, length_inserted, has-map, has_new}
+use Rattle.extents.proofs.CallerLemmas.{covers_in, tally_has, length_inserted, has-map, has_new}
 use Rattle.links.specs.Nodes.{times}
 use Rattle.sources.specs.Source.{SourceView, ArenaShape}
 use Rattle.sources.specs.Holder.{Traded}
 use Rattle.sources.proofs.CallerLemmas.{traded_gave, traded_then}
 use Rattle.pool_core.specs.Pool.{blocks_of, live_of, size_of}
-use Rattle.heap_model.proofs.Counts.{arenas_are_free}
+use Rattle.heap_model.proofs.CallerLemmas.{arenas_are_free, tally_some, empty_tables_are_kept}
 use Rattle.layout_model.specs.Geometry.{total_at, pool_offset, Site, in_arena, ArenaHas, PoolLine}
 use Rattle.arena_set.specs.Arena.{ArenaView, pool_loans, block_extent, arena_loans}
 use Rattle.arena_set.specs.Set.{SetView, empty_set, line_of as usable_line, dry_of, dry_entry, usable_of, usable_times, regions_of, loans_of, IsSet}
 use Rattle.arena_set.specs.Calls.{IsAt, AllIdle, HasNone, EndsOne}
 use Rattle.arena_set.specs.Flat.{part}
 use Rattle.arena_set.proofs.CallerLemmas.{inside, flat_empty}
-use Rattle.heap_model.proofs.Pools.{tally_some}
-use Rattle.heap_model.proofs.Empty.{empty_tables_are_kept}
 use Rattle.py_heap.specs.Heap.{empty_heap}
 use Rattle.py_heap.specs.Kept.{ClassView, State, no_pools, lines_of, sites_of, tables_of, heap_of, IsKeptState}
 use Rattle.radix_map.specs.Map.{HasNone as NoArenaHas, IsFree}

@@ -6,7 +6,7 @@ use Rattle.raw_region.specs.Cells.{AllHome}
 use Rattle.raw_region.specs.Region.{RegionView, PieceView}
 use Rattle.extents.specs.Sums.{tally, Has, Removed, Replaced}
 use Rattle.extents.specs.Extent.{Extent, piece_extent, AreApart, region_extent}
-use Rattle.extents.proofs.Lists.{tally_has, tally_replaced, length_inserted}
+use Rattle.extents.proofs.CallerLemmas.{tally_has, tally_replaced, length_inserted}
 use Rattle.layout_model.specs.Sizes.{capacity}
 use Rattle.layout_model.proofs.CallerLemmas.{many, some_pools}
 use Rattle.pool_core.specs.Pool.{live_of, blocks_of, size_of, after_give}
@@ -14,11 +14,7 @@ use Rattle.pool_core.proofs.CallerLemmas.{gave, block_inside}
 use Rattle.heap_model.specs.Tables.{with_one_less}
 use Rattle.heap_model.specs.Laws.{IsUnplaced}
 use Rattle.heap_model.specs.Ground.{StandsIn, AreStanding}
-use Rattle.heap_model.proofs.Pools.{tally_some, number_self}
-use Rattle.heap_model.proofs.Orderly.{has_after}
-use Rattle.heap_model.proofs.Places.{place_there}
-use Rattle.heap_model.proofs.Ground.{address_finds_pool}
-use Rattle.heap_model.proofs.Unplaced.{freed_full_is_unplaced, freed_one_is_unplaced}
+use Rattle.heap_model.proofs.CallerLemmas.{tally_some, number_self, has_after, place_there, address_finds_pool, freed_full_is_unplaced, freed_one_is_unplaced}
 use Rattle.arena_set.specs.declared.pool_id.PoolId.{PoolId}
 use Rattle.arena_set.specs.Started.{Started}
 use Rattle.layout_model.specs.Geometry.{pool_offset, Site, slot_at, ArenaHas, PoolHas, PoolLine}

@@ -8,7 +8,7 @@ use Rattle.raw_region.specs.Region.{PieceView}
 use Rattle.raw_region.specs.Region.{RegionView}
 use Rattle.extents.specs.Sums.{tally, Has, Inserted}
 use Rattle.extents.specs.Extent.{piece_extent, AreApart}
-use Rattle.extents.proofs.Lists.{tally_inserted, length_inserted, inserted-map}
+use Rattle.extents.proofs.CallerLemmas.{tally_inserted, length_inserted, inserted-map}
 use Rattle.layout_model.specs.Sizes.{size_of_class, capacity}
 use Rattle.layout_model.proofs.CallerLemmas.{many}
 use Rattle.links.specs.Nodes.{times}
@@ -19,9 +19,7 @@ use Rattle.layout_model.specs.Geometry.{PoolLine}
 use Rattle.heap_model.specs.Tables.{spot_of, with_one_more}
 use Rattle.heap_model.specs.View.{places_of}
 use Rattle.heap_model.specs.Laws.{IsPlaced}
-use Rattle.heap_model.proofs.Placed.{new_pool_is_placed}
-use Rattle.heap_model.proofs.Places.{places_long}
-use Rattle.heap_model.proofs.Counts.{started_and_lent}
+use Rattle.heap_model.proofs.CallerLemmas.{new_pool_is_placed, places_long, started_and_lent}
 use Rattle.arena_set.specs.declared.pool_id.PoolId.{PoolId}
 use Rattle.arena_set.specs.Started.{Started, started_of}
 use Rattle.arena_set.specs.Arena.{ArenaView, started_times}

@@ -6,7 +6,7 @@ use Rattle.mem_base.specs.declared.history.Grant.TheVariants.{NotAsked, Granted}
 use Rattle.raw_region.specs.Region.{RegionView, PieceView}
 use Rattle.extents.specs.Sums.{tally, Inserted}
 use Rattle.extents.specs.Extent.{region_extent, piece_extent, AreApart}
-use Rattle.extents.proofs.Lists.{tally-append, tally_inserted, length_inserted}
+use Rattle.extents.proofs.CallerLemmas.{tally-append, tally_inserted, length_inserted}
 use Rattle.layout_model.specs.Layout.{Layout}
 use Rattle.layout_model.specs.Place.{Placed, place, place_by, pools_of_class, granted, new_arena}
 use Rattle.layout_model.specs.Asks.{is_empty, class_asks}

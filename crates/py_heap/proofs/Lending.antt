@@ -6,7 +6,7 @@ use Rattle.mem_base.specs.declared.history.Grant.TheVariants.{NotAsked}
 use Rattle.raw_region.specs.Region.{PieceView}
 use Rattle.extents.specs.Sums.{tally, Has, Inserted, Replaced}
 use Rattle.extents.specs.Extent.{Extent, region_extent, piece_extent, AreApart}
-use Rattle.extents.proofs.Lists.{tally_replaced, length_inserted}
+use Rattle.extents.proofs.CallerLemmas.{tally_replaced, length_inserted}
 use Rattle.layout_model.specs.Sizes.{size_of_class, capacity}
 use Rattle.pool_core.specs.Pool.{HasRoom, IsPool}
 use Rattle.pool_core.proofs.CallerLemmas.{took}
@@ -14,9 +14,7 @@ use Rattle.layout_model.specs.Geometry.{PoolLine}
 use Rattle.heap_model.specs.Tables.{Spot, spot_of, with_one_more}
 use Rattle.heap_model.specs.Kept.{IsKept}
 use Rattle.heap_model.specs.Laws.{IsPlaced}
-use Rattle.heap_model.proofs.Members.{first_has_room}
-use Rattle.heap_model.proofs.Placed.{one_more_is_placed, last_one_is_placed}
-use Rattle.heap_model.proofs.Places.{place_there}
+use Rattle.heap_model.proofs.CallerLemmas.{first_has_room, one_more_is_placed, last_one_is_placed, place_there}
 use Rattle.arena_set.specs.declared.pool_id.PoolId.{PoolId}
 use Rattle.arena_set.specs.Started.{Started}
 use Rattle.arena_set.specs.Arena.{ArenaView, IsSound}

@@ -6,7 +6,7 @@ use Rattle.raw_region.specs.Cells.{AllHome}
 use Rattle.raw_region.specs.Region.{RegionView, PieceView}
 use Rattle.extents.specs.Sums.{tally, Has, Removed}
 use Rattle.extents.specs.Extent.{Extent, region_extent, piece_extent, AreApart}
-use Rattle.extents.proofs.Lists.{tally_has, tally_inserted, length_inserted, inserted-map, has_new, has_right}
+use Rattle.extents.proofs.CallerLemmas.{tally_has, tally_inserted, length_inserted, inserted-map, has_new, has_right}
 use Rattle.layout_model.specs.Sizes.{capacity}
 use Rattle.layout_model.specs.Unplace.{find_arena, without_arena, put_arena, is_last}
 use Rattle.layout_model.proofs.CallerLemmas.{many}
@@ -16,11 +16,7 @@ use Rattle.heap_model.specs.View.{places_of}
 use Rattle.heap_model.specs.Kept.{has_number}
 use Rattle.heap_model.specs.Laws.{IsUnplaced}
 use Rattle.heap_model.specs.Changes as changes
-use Rattle.heap_model.proofs.Pools.{tally_once, number_self}
-use Rattle.heap_model.proofs.Ground.{placed_pool}
-use Rattle.heap_model.proofs.Returned.{dry_arena_gets_pool, usable_arena_is_put, whole_arena_goes_back}
-use Rattle.heap_model.proofs.Counts.{mended_and_gone}
-use Rattle.heap_model.proofs.Members.{pool_is_listed}
+use Rattle.heap_model.proofs.CallerLemmas.{tally_once, number_self, placed_pool, dry_arena_gets_pool, usable_arena_is_put, whole_arena_goes_back, mended_and_gone, pool_is_listed}
 use Rattle.arena_set.specs.declared.pool_id.PoolId.{PoolId}
 use Rattle.arena_set.specs.Started.{Started}
 use Rattle.layout_model.specs.Geometry.{pool_offset, Site, in_arena, ArenaHas, PoolLine}

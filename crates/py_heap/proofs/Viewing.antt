@@ -9,7 +9,7 @@ use Rattle.mem_base.specs.declared.reply.ArenaLine.{ArenaLine}
 use Rattle.mem_base.specs.declared.reply.UsedPool.{UsedPool}
 use Rattle.mem_base.specs.declared.reply.ClassLine.{ClassLine}
 use Rattle.extents.specs.Sums.{tally, Has}
-use Rattle.extents.proofs.Lists.{tally-map, tally-set, tally_zero, has_at, has-map, inserted_first}
+use Rattle.extents.proofs.CallerLemmas.{tally-map, tally-set, tally_zero, has_at, has-map, inserted_first}
 use Rattle.layout_model.specs.Sizes.{capacity}
 use Rattle.layout_model.specs.Layout.{Layout}
 use Rattle.layout_model.specs.Place.{pools_of_class}
@@ -18,8 +18,7 @@ use Rattle.layout_model.specs.Geometry.{PoolLine}
 use Rattle.heap_model.specs.Tables.{spot_of}
 use Rattle.heap_model.specs.View.{used_at, full_pool, full_in as full_by, full_of}
 use Rattle.heap_model.specs.Kept.{has_number}
-use Rattle.heap_model.proofs.Pools.{used_here, listed_pool, number_self}
-use Rattle.heap_model.proofs.Numbered.{numbered_at, numbered_goes}
+use Rattle.heap_model.proofs.CallerLemmas.{used_here, listed_pool, number_self, numbered_at, numbered_goes}
 use Rattle.arena_set.specs.declared.pool_id.PoolId.{PoolId}
 use Rattle.arena_set.specs.Started.{Started}
 use Rattle.arena_set.specs.Arena.{ArenaView}

@@ -6,11 +6,10 @@ use Rattle.std.specs.BTreeMap.{insert_entry, is_at}
 use Rattle.std.specs.Map.{lookup, remove_entry}
 use Rattle.raw_region.specs.Cells.{AllHome, AreLent, away, with_run}
 use Rattle.raw_region.specs.Region.{RegionView, PieceView}
-use Rattle.raw_region.proofs.Rules.{at_home-map, lent_away, length-away}
+use Rattle.raw_region.proofs.CallerLemmas.{at_home-map, lent_away, length-away}
 use Rattle.extents.specs.Extent.{Extent, MeetsNone, piece_extent, region_extent}
 use Rattle.extents.specs.Sums.{Has, Inserted}
-use Rattle.extents.proofs.Addresses.{apart_more, apart_fewer, begins_once, meets_begins, same_extent}
-use Rattle.extents.proofs.Trees.{Found, tree_none, tree_inserted, tree_found, inserted_entry, removed_entry}
+use Rattle.extents.proofs.CallerLemmas.{apart_more, apart_fewer, begins_once, meets_begins, same_extent, Found, tree_none, tree_inserted, tree_found, inserted_entry, removed_entry}
 use Rattle.raw_heap.specs.Kept.{block_at, blocks, IsLentWhole, AreKept}
 
 -- a block is that of an entry

@@ -3,7 +3,7 @@ use Rattle.std.proofs.Common.{◌≡◌, ℕ, List, length, subst, arith, Option
 use Rattle.raw_region.specs.Region.{PieceView}
 use Rattle.extents.specs.Extent.{Extent}
 use Rattle.extents.specs.Sums.{Inserted, Removed}
-use Rattle.extents.proofs.Lists.{length_inserted}
+use Rattle.extents.proofs.CallerLemmas.{length_inserted}
 use Rattle.sources.specs.Source.{SourceView}
 use Rattle.raw_heap.specs.Heap.{IsGot, IsBlock}
 

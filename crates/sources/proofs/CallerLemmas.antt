@@ -2,8 +2,7 @@
 use Rattle.std.proofs.Common.{◌≡◌, ◌≤◌, List, sym, ap, subst, ◌∙◌, arith}
 use Rattle.extents.specs.Extent.{Extent, AreApart, MeetsNone}
 use Rattle.extents.specs.Sums.{tally, Inserted, Removed, AllIn}
-use Rattle.extents.proofs.Lists.{tally_inserted, has_kept, has_other, all_in_more, balanced_more, balanced_fewer, balanced_then}
-use Rattle.extents.proofs.Addresses.{meets_other, all_in_fewer}
+use Rattle.extents.proofs.CallerLemmas.{tally_inserted, has_kept, has_other, all_in_more, balanced_more, balanced_fewer, balanced_then, meets_other, all_in_fewer}
 use Rattle.sources.specs.Source.{SourceView}
 use Rattle.sources.specs.Holder.{AskedAtMostOnce, AskedNothing, AskedUnrefused, Traded}
 

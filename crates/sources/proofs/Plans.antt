@@ -3,7 +3,7 @@ use Rattle.std.proofs.Common.{◌≡◌, ℕ, ◌⊎◌, inl, inr, Bool, true, f
 use Rattle.std.specs.Prelude.{IsTrue, MatchBool}
 use Rattle.std.specs.Ordering.{nat_cmp, match_ordering}
 use Rattle.std.specs.BTreeSet.{insert_key}
-use Rattle.extents.proofs.Trees.{cmp_tells}
+use Rattle.extents.proofs.CallerLemmas.{cmp_tells}
 use Rattle.sources.specs.Memory.{is_listed}
 
 or_twice : (a b : Bool) → (a || b) ≡ (a || (a || b))

@@ -5,9 +5,7 @@ use Rattle.std.specs.BTreeMap.{insert_entry, is_at}
 use Rattle.std.specs.Map.{remove_entry}
 use Rattle.extents.specs.Extent.{Extent, covers, begins, MeetsNone}
 use Rattle.extents.specs.Sums.{tally, Has, Inserted, Removed}
-use Rattle.extents.proofs.Lists.{tally_inserted}
-use Rattle.extents.proofs.Addresses.{covers_out, covered, begins_tells}
-use Rattle.extents.proofs.Trees.{tree_inserted, tree_found}
+use Rattle.extents.proofs.CallerLemmas.{tally_inserted, covers_out, covered, begins_tells, tree_inserted, tree_found}
 use Rattle.sources.specs.Memory.{aligned_up}
 use Rattle.sources.specs.Kept.{held_out, IsRow}
 use Rattle.sources.specs.declared.raw.Held.{Held}

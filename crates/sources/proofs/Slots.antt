@@ -5,8 +5,7 @@ use Rattle.raw_region.specs.declared.maker.Maker.{Maker}
 use Rattle.raw_region.specs.Region.{RegionView}
 use Rattle.extents.specs.Extent.{Extent, covers, begins, region_extent}
 use Rattle.extents.specs.Sums.{tally, Has, Inserted, Removed}
-use Rattle.extents.proofs.Lists.{inserted_first, inserted_under, length_inserted}
-use Rattle.extents.proofs.Addresses.{covers_in, covers_out, covered, begins_tells}
+use Rattle.extents.proofs.CallerLemmas.{inserted_first, inserted_under, length_inserted, covers_in, covers_out, covered, begins_tells}
 use Rattle.sources.specs.Source.{Granted, IsArena}
 use Rattle.sources.specs.Memory.{arena_window, slot_place, IsLeastFreeSlot}
 use Rattle.sources.specs.Kept.{slots_out, first_slot, AreSlots, IsSlotPlace, TakesSlot}

@@ -1,6 +1,6 @@
 use Rattle.std.proofs.Common.{◌≡◌, ◌+◌, ◌≤◌, ◌∙◌, length, sym, subst, ap, arith}
 use Rattle.raw_region.specs.Cells.{AtHome, AreLent}
-use Rattle.raw_region.proofs.Rules.{home_zeroed, length-zeroed, length-away, lent_away}
+use Rattle.raw_region.proofs.CallerLemmas.{home_zeroed, length-zeroed, length-away, lent_away}
 use Rattle.debug_guard.proofs.tests.lend.Goals as goal
 
 pub carve-piece-requires : goal.carve-piece-requires

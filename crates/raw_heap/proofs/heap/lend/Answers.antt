@@ -1,5 +1,5 @@
 use Rattle.std.proofs.Common.{sym, subst, arith}
-use Rattle.raw_region.proofs.Rules.{home_of_all}
+use Rattle.raw_region.proofs.CallerLemmas.{home_of_all}
 use Rattle.extents.specs.Extent.{region_extent}
 use Rattle.extents.specs.Sums.{Inserted}
 use Rattle.raw_heap.specs.Kept.{AreKept, blocks}

@@ -4,7 +4,7 @@ use Rattle.std.specs.BTreeMap.{is_at}
 use Rattle.std.specs.Map.{remove_entry}
 use Rattle.extents.specs.Extent.{piece_extent, region_extent}
 use Rattle.extents.specs.Sums.{Removed}
-use Rattle.extents.proofs.Addresses.{same_extent}
+use Rattle.extents.proofs.CallerLemmas.{same_extent}
 use Rattle.raw_heap.specs.Kept.{AreKept, blocks}
 use Rattle.raw_heap.proofs.Blocks.{entry, not_none, region_of, may_mend, mends_whole, kept_fewer}
 use Rattle.raw_heap.proofs.heap.take_back.Goals as goal

@@ -1,5 +1,5 @@
 use Rattle.extents.specs.Extent.{piece_extent}
-use Rattle.extents.proofs.Lists.{has_new}
+use Rattle.extents.proofs.CallerLemmas.{has_new}
 use Rattle.raw_heap.proofs.Got.{got_block, comes_and_goes}
 use Rattle.raw_heap.proofs.tests.one_block.Goals as goal
 

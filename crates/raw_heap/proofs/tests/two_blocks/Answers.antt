@@ -1,7 +1,6 @@
 use Rattle.std.proofs.Common.{◌≤◌, length, sym, ap, arith}
 use Rattle.extents.specs.Extent.{piece_extent}
-use Rattle.extents.proofs.Lists.{has_new, has_other, length_inserted}
-use Rattle.extents.proofs.Addresses.{meets_other}
+use Rattle.extents.proofs.CallerLemmas.{has_new, has_other, length_inserted, meets_other}
 use Rattle.raw_heap.proofs.Got.{got_block, got_none, comes_before_it_goes}
 use Rattle.raw_heap.proofs.tests.two_blocks.Goals as goal
 

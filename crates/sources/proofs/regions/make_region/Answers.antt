@@ -1,6 +1,6 @@
 use Rattle.std.proofs.Common.{length, sym, subst, ap, ◌∙◌}
 use Rattle.raw_region.specs.Cells.{AllHome}
-use Rattle.raw_region.proofs.Rules.{all_home-zeroed, length-zeroed}
+use Rattle.raw_region.proofs.CallerLemmas.{all_home-zeroed, length-zeroed}
 use Rattle.sources.proofs.regions.make_region.Goals as goal
 
 pub returns : goal.returns

@@ -1,7 +1,6 @@
 use Rattle.std.proofs.Common.{◌≤◌, length, arith}
 use Rattle.extents.specs.Extent.{region_extent}
-use Rattle.extents.proofs.Lists.{has_kept, has_new, has_other}
-use Rattle.extents.proofs.Addresses.{meets_other}
+use Rattle.extents.proofs.CallerLemmas.{has_kept, has_new, has_other, meets_other}
 use Rattle.sources.proofs.tests.next_raw.Goals as goal
 
 pub give-requires : goal.give-requires

@@ -1,5 +1,5 @@
 use Rattle.extents.specs.Extent.{region_extent}
-use Rattle.extents.proofs.Lists.{has_new}
+use Rattle.extents.proofs.CallerLemmas.{has_new}
 use Rattle.sources.proofs.tests.two_raws.Goals as goal
 
 pub give-requires : goal.give-requires

@@ -1,7 +1,7 @@
 use Rattle.std.proofs.Common.{refl, sym, ap, subst, ◌∙◌}
 use Rattle.extents.specs.Sums.{AllIn}
 use Rattle.extents.specs.Extent.{region_extent}
-use Rattle.extents.proofs.Lists.{has_new}
+use Rattle.extents.proofs.CallerLemmas.{has_new}
 use Rattle.sources.specs.Holder.{Traded}
 use Rattle.arena_set.specs.Set.{regions_of}
 use Rattle.layout_model.specs.Unplace.{unplace}

@@ -2,8 +2,7 @@ use Rattle.std.proofs.Common.{◌+◌, Some, Err, sym, ap, subst, ◌∙◌, ref
 use Rattle.raw_region.specs.Cells.{AllHome}
 use Rattle.extents.specs.Sums.{Has, Inserted, Removed}
 use Rattle.extents.specs.Extent.{region_extent}
-use Rattle.extents.proofs.Addresses.{meets_part}
-use Rattle.extents.proofs.Lists.{has_new}
+use Rattle.extents.proofs.CallerLemmas.{meets_part, has_new}
 use Rattle.raw_region.specs.Region.{RegionView}
 use Rattle.sources.specs.Source.{refusals}
 use Rattle.arena_set.specs.Set.{regions_of}

@@ -1,8 +1,7 @@
 use Rattle.std.proofs.Common.{◌≤◌, refl, sym, subst, ap, ◌∙◌, arith}
 use Rattle.extents.specs.Extent.{region_extent}
 use Rattle.extents.specs.Sums.{AllIn, Has, Inserted, Removed}
-use Rattle.extents.proofs.Lists.{has_kept, has_new}
-use Rattle.extents.proofs.Addresses.{meets_part}
+use Rattle.extents.proofs.CallerLemmas.{has_kept, has_new, meets_part}
 use Rattle.sources.specs.Holder.{AskedUnrefused, Traded}
 use Rattle.sources.proofs.CallerLemmas.{traded_nothing, traded_got, traded_back}
 use Rattle.raw_heap.specs.Kept.{blocks}
