@@ -345,6 +345,7 @@ impl Domains {
         ensures held { AreHeld self.new (A.seen arenas.new) (R.seen raws.new) }
         ensures sound { AreSound self.new.heap self.new.raws }
     {
+        // A read of a field tells what always holds of both heaps, which each answer says again.
         let _inside = &self.heap;
         match nelem.checked_mul(elsize) {
             Some(n) => {

@@ -214,6 +214,7 @@ impl Domains {
         ensures held { AreHeld self.new (A.seen arenas.new) (R.seen raws.new) }
         ensures sound { AreSound self.new.heap self.new.raws }
     {
+        // A block has bytes, so its first one tells whose it is.
         let _size = size(&old);
         carry(&old, &mut block);
         self.drop_block(old, arenas, raws);

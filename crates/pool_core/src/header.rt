@@ -61,6 +61,7 @@ pub(crate) fn set_word(r: &mut Region, at: u64, k: u64, w: u64)
     ensures within { OnlyAt (InRun at HEADER_BYTES) r.old.cells r.new.cells }
     ensures home { AtHome r.new.cells at HEADER_BYTES }
 {
+    // The bound on the length keeps the offset from wrapping.
     let _inside = r.len();
     r.write_word(at + 8 * k, w);
 }
