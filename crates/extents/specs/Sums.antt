@@ -39,4 +39,5 @@ TakenFrom {X} part all rest = (f : X → ℕ) → tally f all ≡ tally f part +
 
 -- what `out` has beside `held` is what it had beside it before, in some order
 abbrev pub Balanced : {X : Type 0} → List X → List X → List X → List X → Type 0
-Balanced {X} old_held new_held old_out new_out = (f : X → ℕ) → tally f new_out + tally f old_held ≡ tally f old_out + tally f new_held
+Balanced {X} old_held new_held old_out new_out =
+    (f : X → ℕ) → tally f new_out + tally f old_held ≡ tally f old_out + tally f new_held

@@ -1,5 +1,6 @@
 -- Cells of memory. A cell is `Some b` where the byte b is at home, and `None` where it is lent.
-use Rattle.std.specs.Prelude.{◌≡◌, ℕ, ◌+◌, ◌<◌, ◌≤◌, List, [], ◌∷◌, ◌++◌, length, map, take, drop, replicate, get_or, Option, Some, None}
+use Rattle.std.specs.Prelude.{◌≡◌, ℕ, ◌+◌, ◌<◌, ◌≤◌, List, [], ◌∷◌, ◌++◌, length, map, take, drop, replicate}
+use Rattle.std.specs.Prelude.{get_or, Option, Some, None}
 use Rattle.std.specs.Int.{from_le_bytes, w64}
 
 module _ {X : Type 0} where

@@ -17,4 +17,8 @@ pub record PieceView : Type 0 where
 
 -- the piece, with other bytes, of which it takes as many as it has
 abbrev pub with_bytes : PieceView → List ℕ → PieceView
-with_bytes piece bytes = record { place = piece.place; maker = piece.maker; bytes = refill (length piece.bytes) piece.bytes bytes }
+with_bytes piece bytes = record {
+  place = piece.place;
+  maker = piece.maker;
+  bytes = refill (length piece.bytes) piece.bytes bytes;
+}

@@ -8,7 +8,8 @@ ghost use Rattle.raw_region.specs.Cells.{AtHome, IsHome, AreLent, away, bytes_of
 pub fn bytes_after_a_write()
     ensures written { (cells : List (Option ℕ)) (off : ℕ) (bytes : List ℕ) → off + length bytes ≤ length cells
         → bytes_of (with_run cells off (length bytes) (map Some bytes)) off (length bytes) ≡ bytes }
-    ensures kept { (cells : List (Option ℕ)) (off : ℕ) (run : List (Option ℕ)) → off + length run ≤ length cells
+    ensures kept { (cells : List (Option ℕ)) (off : ℕ) (run : List (Option ℕ))
+        → off + length run ≤ length cells
         → (o k : ℕ) → o + k ≤ length cells → (o + k ≤ off) ⊎ (off + length run ≤ o)
         → bytes_of (with_run cells off (length run) run) o k ≡ bytes_of cells o k }
 {}
@@ -31,7 +32,8 @@ pub fn home_after_a_write()
 
 /// A run that was carved is lent, and all that was at home beside it stays there.
 pub fn home_after_a_carve()
-    ensures lent { (cells : List (Option ℕ)) (off len : ℕ) → off + len ≤ length cells → AreLent (away cells off len) off len }
+    ensures lent { (cells : List (Option ℕ)) (off len : ℕ) → off + len ≤ length cells
+        → AreLent (away cells off len) off len }
     ensures home { (cells : List (Option ℕ)) (off len : ℕ) → off + len ≤ length cells
         → (o k : ℕ) → (o + k ≤ off) ⊎ (off + len ≤ o) → AtHome cells o k → AtHome (away cells off len) o k }
 {}
@@ -39,5 +41,6 @@ pub fn home_after_a_carve()
 /// What is lent stays lent while other cells are written, carved or brought home.
 pub fn lent_beside_a_run()
     ensures { (cells : List (Option ℕ)) (off : ℕ) (run : List (Option ℕ)) → off + length run ≤ length cells
-        → (o k : ℕ) → (o + k ≤ off) ⊎ (off + length run ≤ o) → AreLent cells o k → AreLent (with_run cells off (length run) run) o k }
+        → (o k : ℕ) → (o + k ≤ off) ⊎ (off + length run ≤ o) → AreLent cells o k
+        → AreLent (with_run cells off (length run) run) o k }
 {}

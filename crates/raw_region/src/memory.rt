@@ -1,7 +1,8 @@
 //! The memory itself, behind a raw pointer. The pointer is passed beside the owner of the bytes, which is
 //! all ghost state. So a piece owns its part of the memory at the pointer of its region, and `cut` and
 //! `join` move only that ownership.
-ghost use Rattle.std.specs.Prelude.{◌≡◌, ℕ, ◌+◌, ◌^◌, ◌<◌, ◌≤◌, List, Option, Some, None, map, length, take, drop, get_or, slice_set};
+ghost use Rattle.std.specs.Prelude.{◌≡◌, ℕ, ◌+◌, ◌^◌, ◌<◌, ◌≤◌, List, Option, Some, None, map, length, take};
+ghost use Rattle.std.specs.Prelude.{drop, get_or, slice_set};
 ghost use Rattle.std.specs.Borrow.{sem};
 ghost use denote.RawPtr.{Ptr};
 ghost use Rattle.raw_region.specs.Cells.{IsHome, IsHomeRun, away, only, with_run};
@@ -76,8 +77,10 @@ impl Cells {
 
     /// The cells of `part` from `_off` on, `_len` of them, take the place of those here.
     pub(crate) fn join(&mut self, part: Cells, _off: usize, _len: usize)
-        requires { (part.at ≡ self.old.at) × (_off + _len ≤ length self.old.cells) × (_off + _len ≤ length part.cells) }
-        ensures { (self.new.at ≡ self.old.at) × (self.new.cells ≡ with_run self.old.cells _off _len (take _len (drop _off part.cells))) }
+        requires { (part.at ≡ self.old.at) × (_off + _len ≤ length self.old.cells)
+            × (_off + _len ≤ length part.cells) }
+        ensures { (self.new.at ≡ self.old.at)
+            × (self.new.cells ≡ with_run self.old.cells _off _len (take _len (drop _off part.cells))) }
     {
         let Cells {} = part;
     }

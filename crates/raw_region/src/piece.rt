@@ -23,7 +23,11 @@ impl Model for Piece {
 
     ghost use Rattle.raw_region.specs.Fields.{IsPiece};
 
-    ghost view = { λ p. record { place = p.base + p.off; maker = record { start = p.start; base = p.base }; bytes = at_home p.cells.cells } };
+    ghost view = { λ p. record {
+      place = p.base + p.off;
+      maker = record { start = p.start; base = p.base };
+      bytes = at_home p.cells.cells;
+    } };
 
     ghost invariant = { IsPiece };
 }

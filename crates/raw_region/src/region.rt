@@ -29,7 +29,11 @@ impl Model for Region {
 
     ghost use Rattle.raw_region.specs.Fields.{IsRegion};
 
-    ghost view = { λ r. record { base = r.base; maker = record { start = r.start; base = r.base }; cells = r.cells.cells } };
+    ghost view = { λ r. record {
+      base = r.base;
+      maker = record { start = r.start; base = r.base };
+      cells = r.cells.cells;
+    } };
 
     ghost invariant = { IsRegion };
 }
@@ -157,7 +161,8 @@ impl Region {
         requires { (1 ≤ len) × AtHome self.old.cells off len }
         ensures same { (self.new.base ≡ self.old.base) × (self.new.maker ≡ self.old.maker) }
         ensures cells { self.new.cells ≡ away self.old.cells off len }
-        ensures piece { (result.place ≡ self.old.base + off) × (result.maker ≡ self.old.maker) × (result.bytes ≡ bytes_of self.old.cells off len) × (length result.bytes ≡ len) }
+        ensures piece { (result.place ≡ self.old.base + off) × (result.maker ≡ self.old.maker)
+            × (result.bytes ≡ bytes_of self.old.cells off len) × (length result.bytes ≡ len) }
     {
         let cells = self.cells.cut(off as usize, len as usize);
         Piece {
@@ -171,9 +176,12 @@ impl Region {
 
     /// Brings the bytes of a piece home.
     pub fn mend(&mut self, piece: Piece)
-        requires { (piece.maker ≡ self.old.maker) × (self.old.base ≤ piece.place) × AreLent self.old.cells (piece.place - self.old.base) (length piece.bytes) }
+        requires { (piece.maker ≡ self.old.maker) × (self.old.base ≤ piece.place)
+            × AreLent self.old.cells (piece.place - self.old.base) (length piece.bytes) }
         ensures same { (self.new.base ≡ self.old.base) × (self.new.maker ≡ self.old.maker) }
-        ensures cells { self.new.cells ≡ with_run self.old.cells (piece.place - self.old.base) (length piece.bytes) (map Some piece.bytes) }
+        ensures cells { self.new.cells
+            ≡ with_run self.old.cells (piece.place - self.old.base) (length piece.bytes)
+            (map Some piece.bytes) }
     {
         let Piece {
             start: _,

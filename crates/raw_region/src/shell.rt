@@ -21,7 +21,10 @@ impl Owns for Shell {
 }
 
 impl Move for Shell {
-    ghost own_val = { λ e vs. fex Inside (λ v. fsep (feq ℕ v.vec.len e.len) (fall (List ℕ) (λ xs. fwand (fsep (feq ℕ (length xs) e.len) (cells_own e.first (map Some xs))) (Fields.own_val (record { vec = with_items v.vec xs }) vs)))) };
+    ghost own_val = { λ e vs. fex Inside (λ v.
+        fsep (feq ℕ v.vec.len e.len) (fall (List ℕ) (λ xs.
+        fwand (fsep (feq ℕ (length xs) e.len) (cells_own e.first (map Some xs)))
+        (Fields.own_val (record { vec = with_items v.vec xs }) vs)))) };
 }
 
 unsafe impl Send for Shell {}
@@ -32,7 +35,8 @@ unsafe impl Sync for Shell {}
 /// Parts a `Vec` into its bytes, which are all at home, and what is left of it.
 pub(crate) fn take_apart(vec: Vec<u8>) -> (Cells, Shell)
     requires { 0 < vec.len }
-    ensures { (result.0.at ≡ vec.ptr) × (result.0.cells ≡ map Some vec.items) × (result.1.first ≡ vec.ptr) × (result.1.len ≡ vec.len) }
+    ensures { (result.0.at ≡ vec.ptr) × (result.0.cells ≡ map Some vec.items)
+        × (result.1.first ≡ vec.ptr) × (result.1.len ≡ vec.len) }
 {
     (Cells {}, Shell { vec })
 }

@@ -1,5 +1,6 @@
 -- What the sources in memory keep of the regions that are out.
-use Rattle.std.specs.Prelude.{◌≡◌, ℕ, ◌+◌, ◌*◌, ◌%◌, ◌<◌, ◌≤◌, List, [], ◌∷◌, length, map, get_or, slice_set, Option, None, Some, IsSome}
+use Rattle.std.specs.Prelude.{◌≡◌, ℕ, ◌+◌, ◌*◌, ◌%◌, ◌<◌, ◌≤◌, List, [], ◌∷◌, length, map, get_or, slice_set}
+use Rattle.std.specs.Prelude.{Option, None, Some, IsSome}
 use Rattle.raw_region.specs.declared.maker.Maker.{Maker}
 use Rattle.raw_region.specs.Cells.{AllHome}
 use Rattle.raw_region.specs.Region.{RegionView}
@@ -18,7 +19,8 @@ pub record IsNew (place asked : ℕ) (region : RegionView) : Type 0 where
 abbrev pub slots_out : ℕ → List (Option Maker) → List Extent
 slots_out place [] = []
 slots_out place (None ∷ slots) = slots_out (place + 0x100000) slots
-slots_out place (Some maker ∷ slots) = record { place = place; len = 0x100000; maker = maker } ∷ slots_out (place + 0x100000) slots
+slots_out place (Some maker ∷ slots) =
+    record { place = place; len = 0x100000; maker = maker } ∷ slots_out (place + 0x100000) slots
 
 -- where the first slot begins
 abbrev pub first_slot : ℕ → ℕ

@@ -65,4 +65,6 @@ aligned_up x = 16 * ((x + 15) / 16)
 
 -- the source refuses a request of len bytes: it is listed, or too many bytes would be out, or the window has no room
 abbrev pub RawRefuses : RawView → ℕ → Type 0
-RawRefuses s len = IsTrue (is_listed s.requests.plan (s.requests.asked + 1)) ⊎ (s.max_bytes < bytes_of s.out + len) ⊎ (raw_window.start + raw_window.length < s.next + len)
+RawRefuses s len =
+    IsTrue (is_listed s.requests.plan (s.requests.asked + 1)) ⊎ (s.max_bytes < bytes_of s.out + len)
+    ⊎ (raw_window.start + raw_window.length < s.next + len)

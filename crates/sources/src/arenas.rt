@@ -3,7 +3,8 @@
 //! The arenas stand in slots of a mebibyte, side by side. A request takes the least free slot, and a
 //! slot whose arena came back is free again.
 
-ghost use Rattle.std.specs.Prelude.{◌≡◌, ℕ, ◌+◌, ◌^◌, ◌<◌, ◌≤◌, ◌↔◌, [], length, get_or, None, Some, IsSome, IfOk, OnOk, OnErr, IsErrOf, MatchBool};
+ghost use Rattle.std.specs.Prelude.{◌≡◌, ℕ, ◌+◌, ◌^◌, ◌<◌, ◌≤◌, ◌↔◌, [], length, get_or, None, Some, IsSome};
+ghost use Rattle.std.specs.Prelude.{IfOk, OnOk, OnErr, IsErrOf, MatchBool};
 ghost use Rattle.raw_region.specs.Cells.{AllHome};
 ghost use Rattle.extents.specs.Extent.{region_extent};
 ghost use Rattle.extents.specs.Sums.{Has, Removed};
@@ -46,7 +47,11 @@ impl Model for MemArenas {
 
     ghost use Rattle.sources.specs.Kept.{slots_out, first_slot, AreSlots};
 
-    ghost view = { λ a. record { requests = a.requests; shape = record { max = a.max; skew = a.skew }; out = slots_out (first_slot a.skew) a.slots.items } };
+    ghost view = { λ a. record {
+      requests = a.requests;
+      shape = record { max = a.max; skew = a.skew };
+      out = slots_out (first_slot a.skew) a.slots.items;
+    } };
 
     ghost invariant = { λ a. AreSlots a.slots.items a.skew a.held a.max };
 }
@@ -65,7 +70,11 @@ fn free_slots(alloc: Global) -> Result<Vec<Option<Maker>>, AllocError>
 impl MemArenas {
     /// A source of which nothing is out. It has room for 256 arenas, and no skew.
     pub fn new(alloc: Global) -> Result<MemArenas, AllocError>
-        ensures { IfOk result (λ s. s ≡ record { requests = record { asked = 0; refused = 0; plan = [] }; shape = record { max = 256; skew = 0 }; out = [] }) }
+        ensures { IfOk result (λ s. s ≡ record {
+          requests = record { asked = 0; refused = 0; plan = [] };
+          shape = record { max = 256; skew = 0 };
+          out = [];
+        }) }
     {
         Ok(MemArenas {
             alloc,
@@ -137,7 +146,14 @@ fn make_in_slot(
 }
 
 impl ArenaSource for MemArenas {
-    ghost seen = { λ s. record { asked = s.requests.asked; refused = s.requests.refused; window = arena_window; out = s.out; plan = Some (is_listed s.requests.plan); shape = Some s.shape } };
+    ghost seen = { λ s. record {
+      asked = s.requests.asked;
+      refused = s.requests.refused;
+      window = arena_window;
+      out = s.out;
+      plan = Some (is_listed s.requests.plan);
+      shape = Some s.shape;
+    } };
 
     fn asked(&self) -> u64 {
         self.requests.asked()
@@ -151,7 +167,8 @@ impl ArenaSource for MemArenas {
         requires { self.old.requests.asked < 2 ^ 63 }
         ensures asked { self.new.requests.asked ≡ self.old.requests.asked + 1 }
         ensures refused { self.new.requests.refused ≡ self.old.requests.refused + refusals result }
-        ensures planned { IsPlanned (Some (is_listed self.old.requests.plan)) (self.old.requests.asked + 1) → IsErrOf result AskError.Refused }
+        ensures planned { IsPlanned (Some (is_listed self.old.requests.plan)) (self.old.requests.asked + 1)
+            → IsErrOf result AskError.Refused }
         ensures granted { IfOk result (λ r. Granted r arena_window self.old.out self.new.out) }
         ensures arena { IfOk result IsArena }
         ensures none { OnErr result (self.new.out ≡ self.old.out) }
@@ -190,9 +207,11 @@ impl ArenaSource for MemArenas {
     fn refuse(&mut self, k: u64) -> Result<(), AllocError>
         requires number { (1 ≤ k) × (k ≤ 1000000) }
         requires count { self.old.requests.asked < 2 ^ 63 }
-        ensures listed { OnOk result (ListsAlso self.old.requests.plan self.new.requests.plan (self.old.requests.asked + k)) }
+        ensures listed { OnOk result
+            (ListsAlso self.old.requests.plan self.new.requests.plan (self.old.requests.asked + k)) }
         ensures left { OnErr result (self.new.requests.plan ≡ self.old.requests.plan) }
-        ensures counts { (self.new.requests.asked ≡ self.old.requests.asked) × (self.new.requests.refused ≡ self.old.requests.refused) }
+        ensures counts { (self.new.requests.asked ≡ self.old.requests.asked)
+            × (self.new.requests.refused ≡ self.old.requests.refused) }
         ensures same { (self.new.out ≡ self.old.out) × (self.new.shape ≡ self.old.shape) }
     {
         self.requests.list(k)
@@ -200,7 +219,8 @@ impl ArenaSource for MemArenas {
 
     fn shape(&mut self, max: u32, skew: u8)
         requires { max ≤ 1024 }
-        ensures shape { Some self.new.shape ≡ shape_after self.old.out (record { max = max; skew = skew }) (Some self.old.shape) }
+        ensures shape { Some self.new.shape
+            ≡ shape_after self.old.out (record { max = max; skew = skew }) (Some self.old.shape) }
         ensures same { (self.new.requests ≡ self.old.requests) × (self.new.out ≡ self.old.out) }
     {
         if self.held == 0 {

@@ -51,7 +51,12 @@ impl Model for MemRaw {
 
     ghost use Rattle.sources.specs.Kept.{held_out, IsRow};
 
-    ghost view = { λ r. record { requests = r.requests; max_bytes = r.max_bytes; next = r.next; out = held_out r.out.entries } };
+    ghost view = { λ r. record {
+      requests = r.requests;
+      max_bytes = r.max_bytes;
+      next = r.next;
+      out = held_out r.out.entries;
+    } };
 
     ghost invariant = { λ r. IsRow (held_out r.out.entries) r.bytes r.max_bytes r.next };
 }
@@ -59,7 +64,12 @@ impl Model for MemRaw {
 impl MemRaw {
     /// A source of which nothing is out. It has room for 268,435,456 bytes.
     pub fn new(alloc: Global) -> Result<MemRaw, AllocError>
-        ensures { IfOk result (λ s. s ≡ record { requests = record { asked = 0; refused = 0; plan = [] }; max_bytes = 268435456; next = 0x200000000000; out = [] }) }
+        ensures { IfOk result (λ s. s ≡ record {
+          requests = record { asked = 0; refused = 0; plan = [] };
+          max_bytes = 268435456;
+          next = 0x200000000000;
+          out = [];
+        }) }
     {
         Ok(MemRaw {
             alloc,
@@ -83,7 +93,9 @@ fn align_up(place: u64) -> u64
 // Whether a request of `len` bytes has room beside the bytes that are out, and in the window.
 fn has_room(len: u64, bytes: u64, max_bytes: u64, next: u64) -> bool
     requires { (bytes ≤ max_bytes) × (next ≤ 0xa00000000000) }
-    ensures { MatchBool result ((bytes + len ≤ max_bytes) × (next + len ≤ 0xa00000000000)) ((max_bytes < bytes + len) ⊎ (0xa00000000000 < next + len)) }
+    ensures { MatchBool result
+        ((bytes + len ≤ max_bytes) × (next + len ≤ 0xa00000000000))
+        ((max_bytes < bytes + len) ⊎ (0xa00000000000 < next + len)) }
 {
     len <= max_bytes - bytes && len <= WINDOW_END - next
 }
@@ -94,7 +106,8 @@ fn keep(out: &mut BTreeMap<u64, Held>, region: Region) -> Result<Region, AllocEr
     requires home { AllHome region.cells }
     requires free { tally (begins region.base) (held_out out.old.entries) ≡ 0 }
     ensures same { IfOk result (λ r. r ≡ region) }
-    ensures kept { OnOk result (Inserted (region_extent region) (held_out out.old.entries) (held_out out.new.entries)) }
+    ensures kept { OnOk result
+        (Inserted (region_extent region) (held_out out.old.entries) (held_out out.new.entries)) }
     ensures left { OnErr result (out.new.entries ≡ out.old.entries) }
 {
     let held = Held {
@@ -120,7 +133,8 @@ fn make_kept(
     requires fits { (1 ≤ len) × (base + len ≤ 2 ^ 48) }
     requires free { tally (begins base) (held_out out.old.entries) ≡ 0 }
     ensures new { IfOk result (λ r. IsNew base len r) }
-    ensures kept { IfOk result (λ r. Inserted (region_extent r) (held_out out.old.entries) (held_out out.new.entries)) }
+    ensures kept { IfOk result (λ r.
+        Inserted (region_extent r) (held_out out.old.entries) (held_out out.new.entries)) }
     ensures left { OnErr result (out.new.entries ≡ out.old.entries) }
 {
     let region = make_region(alloc, base, len)?;
@@ -128,7 +142,14 @@ fn make_kept(
 }
 
 impl RawSource for MemRaw {
-    ghost seen = { λ s. record { asked = s.requests.asked; refused = s.requests.refused; window = raw_window; out = s.out; plan = Some (is_listed s.requests.plan); shape = Some s.max_bytes } };
+    ghost seen = { λ s. record {
+      asked = s.requests.asked;
+      refused = s.requests.refused;
+      window = raw_window;
+      out = s.out;
+      plan = Some (is_listed s.requests.plan);
+      shape = Some s.max_bytes;
+    } };
 
     fn asked(&self) -> u64 {
         self.requests.asked()
@@ -143,7 +164,8 @@ impl RawSource for MemRaw {
         requires some { 1 ≤ len }
         ensures asked { self.new.requests.asked ≡ self.old.requests.asked + 1 }
         ensures refused { self.new.requests.refused ≡ self.old.requests.refused + refusals result }
-        ensures planned { IsPlanned (Some (is_listed self.old.requests.plan)) (self.old.requests.asked + 1) → IsErrOf result AskError.Refused }
+        ensures planned { IsPlanned (Some (is_listed self.old.requests.plan)) (self.old.requests.asked + 1)
+            → IsErrOf result AskError.Refused }
         ensures granted { IfOk result (λ r. Granted r raw_window self.old.out self.new.out) }
         ensures raw { IfOk result (IsRawRegion len) }
         ensures none { OnErr result (self.new.out ≡ self.old.out) }
@@ -152,7 +174,8 @@ impl RawSource for MemRaw {
 
         // What is refused, and where a region stands.
         ensures exactly { IsErrOf result AskError.Refused ↔ RawRefuses self.old len }
-        ensures place { IfOk result (λ r. (r.base ≡ self.old.next) × (self.new.next ≡ aligned_up (self.old.next + len))) }
+        ensures place { IfOk result (λ r. (r.base ≡ self.old.next)
+            × (self.new.next ≡ aligned_up (self.old.next + len))) }
         ensures stays { OnErr result (self.new.next ≡ self.old.next) }
     {
         let room = has_room(len, self.bytes, self.max_bytes, self.next);
@@ -184,17 +207,22 @@ impl RawSource for MemRaw {
     fn refuse(&mut self, k: u64) -> Result<(), AllocError>
         requires number { (1 ≤ k) × (k ≤ 1000000) }
         requires count { self.old.requests.asked < 2 ^ 63 }
-        ensures listed { OnOk result (ListsAlso self.old.requests.plan self.new.requests.plan (self.old.requests.asked + k)) }
+        ensures listed { OnOk result
+            (ListsAlso self.old.requests.plan self.new.requests.plan (self.old.requests.asked + k)) }
         ensures left { OnErr result (self.new.requests.plan ≡ self.old.requests.plan) }
-        ensures counts { (self.new.requests.asked ≡ self.old.requests.asked) × (self.new.requests.refused ≡ self.old.requests.refused) }
-        ensures same { (self.new.out ≡ self.old.out) × (self.new.max_bytes ≡ self.old.max_bytes) × (self.new.next ≡ self.old.next) }
+        ensures counts { (self.new.requests.asked ≡ self.old.requests.asked)
+            × (self.new.requests.refused ≡ self.old.requests.refused) }
+        ensures same { (self.new.out ≡ self.old.out) × (self.new.max_bytes ≡ self.old.max_bytes)
+            × (self.new.next ≡ self.old.next) }
     {
         self.requests.list(k)
     }
 
     fn shape(&mut self, max_bytes: u64)
-        ensures shape { Some self.new.max_bytes ≡ shape_after self.old.out max_bytes (Some self.old.max_bytes) }
-        ensures same { (self.new.requests ≡ self.old.requests) × (self.new.out ≡ self.old.out) × (self.new.next ≡ self.old.next) }
+        ensures shape { Some self.new.max_bytes
+            ≡ shape_after self.old.out max_bytes (Some self.old.max_bytes) }
+        ensures same { (self.new.requests ≡ self.old.requests) × (self.new.out ≡ self.old.out)
+            × (self.new.next ≡ self.old.next) }
     {
         if self.out.is_empty() {
             self.max_bytes = max_bytes;

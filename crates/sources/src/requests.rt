@@ -53,7 +53,10 @@ impl Requests {
     pub(crate) fn refuses_next(&mut self, has_room: bool) -> bool
         requires { self.old.asked < 2 ^ 63 }
         ensures refused { result ≡ (is_listed self.old.plan (self.old.asked + 1) || not has_room) }
-        ensures counted { self.new ≡ record self.old { asked = self.old.asked + 1; refused = self.old.refused + (if result then 1 else 0) } }
+        ensures counted { self.new ≡ record self.old {
+          asked = self.old.asked + 1;
+          refused = self.old.refused + (if result then 1 else 0);
+        } }
     {
         self.asked += 1;
         let refuses = self.plan.contains(&self.asked) || !has_room;

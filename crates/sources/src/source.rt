@@ -41,8 +41,10 @@ pub trait ArenaSource {
         requires { (seen self.old).asked < 2 ^ 63 }
         ensures asked { (seen self.new).asked ≡ (seen self.old).asked + 1 }
         ensures refused { (seen self.new).refused ≡ (seen self.old).refused + refusals result }
-        ensures planned { IsPlanned (seen self.old).plan ((seen self.old).asked + 1) → IsErrOf result AskError.Refused }
-        ensures granted { IfOk result (λ r. Granted r (seen self.old).window (seen self.old).out (seen self.new).out) }
+        ensures planned { IsPlanned (seen self.old).plan ((seen self.old).asked + 1)
+            → IsErrOf result AskError.Refused }
+        ensures granted { IfOk result (λ r.
+            Granted r (seen self.old).window (seen self.old).out (seen self.new).out) }
         ensures arena { IfOk result IsArena }
         ensures none { OnErr result ((seen self.new).out ≡ (seen self.old).out) }
         ensures window { (seen self.new).window ≡ (seen self.old).window }
@@ -63,13 +65,17 @@ pub trait ArenaSource {
     fn refuse(&mut self, k: u64) -> Result<(), AllocError>
         requires number { (1 ≤ k) × (k ≤ 1000000) }
         requires count { (seen self.old).asked < 2 ^ 63 }
-        ensures listed { OnOk result (seen self.new ≡ record (seen self.old) { plan = plan_with ((seen self.old).asked + k) (seen self.old).plan }) }
+        ensures listed { OnOk result (seen self.new ≡ record (seen self.old) {
+          plan = plan_with ((seen self.old).asked + k) (seen self.old).plan;
+        }) }
         ensures left { OnErr result (seen self.new ≡ seen self.old) };
 
     /// Asks for room for `max` arenas, whose bases are `skew` pages of 4,096 bytes past a mebibyte.
     fn shape(&mut self, max: u32, skew: u8)
         requires { max ≤ 1024 }
-        ensures { seen self.new ≡ record (seen self.old) { shape = shape_after (seen self.old).out (record { max = max; skew = skew }) (seen self.old).shape } };
+        ensures { seen self.new ≡ record (seen self.old) {
+          shape = shape_after (seen self.old).out (record { max = max; skew = skew }) (seen self.old).shape;
+        } };
 }
 
 /// Where raw regions come from: regions of any length.
@@ -91,8 +97,10 @@ pub trait RawSource {
         requires some { 1 ≤ len }
         ensures asked { (seen self.new).asked ≡ (seen self.old).asked + 1 }
         ensures refused { (seen self.new).refused ≡ (seen self.old).refused + refusals result }
-        ensures planned { IsPlanned (seen self.old).plan ((seen self.old).asked + 1) → IsErrOf result AskError.Refused }
-        ensures granted { IfOk result (λ r. Granted r (seen self.old).window (seen self.old).out (seen self.new).out) }
+        ensures planned { IsPlanned (seen self.old).plan ((seen self.old).asked + 1)
+            → IsErrOf result AskError.Refused }
+        ensures granted { IfOk result (λ r.
+            Granted r (seen self.old).window (seen self.old).out (seen self.new).out) }
         ensures raw { IfOk result (IsRawRegion len) }
         ensures none { OnErr result ((seen self.new).out ≡ (seen self.old).out) }
         ensures window { (seen self.new).window ≡ (seen self.old).window }
@@ -113,10 +121,14 @@ pub trait RawSource {
     fn refuse(&mut self, k: u64) -> Result<(), AllocError>
         requires number { (1 ≤ k) × (k ≤ 1000000) }
         requires count { (seen self.old).asked < 2 ^ 63 }
-        ensures listed { OnOk result (seen self.new ≡ record (seen self.old) { plan = plan_with ((seen self.old).asked + k) (seen self.old).plan }) }
+        ensures listed { OnOk result (seen self.new ≡ record (seen self.old) {
+          plan = plan_with ((seen self.old).asked + k) (seen self.old).plan;
+        }) }
         ensures left { OnErr result (seen self.new ≡ seen self.old) };
 
     /// Asks for room for `max_bytes` bytes.
     fn shape(&mut self, max_bytes: u64)
-        ensures { seen self.new ≡ record (seen self.old) { shape = shape_after (seen self.old).out max_bytes (seen self.old).shape } };
+        ensures { seen self.new ≡ record (seen self.old) {
+          shape = shape_after (seen self.old).out max_bytes (seen self.old).shape;
+        } };
 }

@@ -1,7 +1,10 @@
 -- The names of the causes for which a trace is refused.
 use Rattle.std.specs.Prelude.{ℕ, List, codes}
 use Rattle.trace_model.specs.declared.cause.TraceCause.{TraceCause}
-use Rattle.trace_model.specs.declared.cause.TraceCause.TheVariants.{BadEnd, BadHeader, BadByte, UnknownWord, Misplaced, BadWords, BadNumber, BadHex, BadName, BadRange, BadRule, ForgedLetter, NoFrame, SameTrack, NoTrack, TooMany}
+use Rattle.trace_model.specs.declared.cause.TraceCause.TheVariants.{BadEnd, BadHeader, BadByte, UnknownWord}
+use Rattle.trace_model.specs.declared.cause.TraceCause.TheVariants.{Misplaced, BadWords, BadNumber, BadHex}
+use Rattle.trace_model.specs.declared.cause.TraceCause.TheVariants.{BadName, BadRange, BadRule, ForgedLetter}
+use Rattle.trace_model.specs.declared.cause.TraceCause.TheVariants.{NoFrame, SameTrack, NoTrack, TooMany}
 
 -- a cause's name, as refusals print it
 abbrev pub cause_word : TraceCause → List ℕ

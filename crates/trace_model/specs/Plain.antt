@@ -1,6 +1,8 @@
 -- The operations of a trace with their names written out: for each its keyword, its operands, their ranges and
 -- how it is read. A new operation is said here, and the trace that the code's values stand for follows.
-use Rattle.std.specs.Prelude.{◌≡◌, ℕ, ◌<◌, ◌≤◌, ◌^◌, ℤ, Bool, true, false, if◌then◌else◌, List, [], ◌∷◌, length, map, slice_get, unwrap_or, Option, Some, None, Result, Ok, Err, codes, decimal, IsTrue}
+use Rattle.std.specs.Prelude.{◌≡◌, ℕ, ◌<◌, ◌≤◌, ◌^◌, ℤ, Bool, true, false, if◌then◌else◌, List, [], ◌∷◌}
+use Rattle.std.specs.Prelude.{length, map, slice_get, unwrap_or, Option, Some, None, Result, Ok, Err, codes}
+use Rattle.std.specs.Prelude.{decimal, IsTrue}
 use Rattle.std.specs.List.{AllByRecursion}
 use Rattle.std.specs.Fmt.{signed_decimal}
 use Rattle.std.specs.Option.{option_map}
@@ -16,7 +18,8 @@ use Rattle.mem_base.specs.declared.trace.Op.TheVariants as code
 use Rattle.mem_base.specs.declared.trace.Pick.{Pick}
 use Rattle.mem_base.specs.declared.trace.Track.{Track}
 use Rattle.mem_base.specs.declared.trace.Trace.{Trace}
-use Rattle.trace_model.specs.Operands.{◌>>=◌, is_name, is_forged, letter_word, side_word, hex_word, number_at, offset_at, count_at, refusal_at, name_at, letter_at, side_at, hex_at}
+use Rattle.trace_model.specs.Operands.{◌>>=◌, is_name, is_forged, letter_word, side_word, hex_word, number_at}
+use Rattle.trace_model.specs.Operands.{offset_at, count_at, refusal_at, name_at, letter_at, side_at, hex_at}
 use Rattle.trace_model.specs.declared.cause.TraceCause.{TraceCause}
 use Rattle.trace_model.specs.declared.cause.TraceCause.TheVariants.{UnknownWord, BadWords, ForgedLetter}
 use Rattle.trace_model.specs.declared.keyword.Keyword.{Keyword}
@@ -101,7 +104,8 @@ IsKnownAmong texts (code.Malloc letter name size) = name.0 < texts
 IsKnownAmong texts (code.Calloc letter name count size) = name.0 < texts
 IsKnownAmong texts (code.Realloc letter name size) = name.0 < texts
 IsKnownAmong texts (code.Free letter name) = name.0 < texts
-IsKnownAmong texts (code.Poke name offset bytes) = (name.0 < texts) × IsOffset offset × (1 ≤ length bytes) × (length bytes ≤ MAX_REACH)
+IsKnownAmong texts (code.Poke name offset bytes) =
+    (name.0 < texts) × IsOffset offset × (1 ≤ length bytes) × (length bytes ≤ MAX_REACH)
 IsKnownAmong texts (code.Peek name offset count) = (name.0 < texts) × IsOffset offset × (1 ≤ count) × (count ≤ MAX_REACH)
 IsKnownAmong texts (code.Enter file line) = ⊥
 IsKnownAmong texts (code.Line line) = ⊥

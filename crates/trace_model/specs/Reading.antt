@@ -1,5 +1,6 @@
 -- Reading a trace line by line, up to the first faulty line and its first fault.
-use Rattle.std.specs.Prelude.{ℕ, ◌+◌, Bool, false, not, ◌&&◌, ◌||◌, nat_le, nat_lt, ◌==◌, if◌then◌else◌, List, [], ◌∷◌, ◌++◌, length, Result, Ok, Err}
+use Rattle.std.specs.Prelude.{ℕ, ◌+◌, Bool, false, not, ◌&&◌, ◌||◌, nat_le, nat_lt, ◌==◌, if◌then◌else◌, List}
+use Rattle.std.specs.Prelude.{[], ◌∷◌, ◌++◌, length, Result, Ok, Err}
 use Rattle.std.specs.List.{list_all, list_any, slice_split}
 use Rattle.std.specs.Str.{bytes_eq}
 use Rattle.mem_base.specs.Name.{Name}
@@ -8,7 +9,9 @@ use Rattle.trace_model.specs.Operands.{◌>>=◌, is_between, name_at, times_at}
 use Rattle.trace_model.specs.Plain.{Action, PlainTrack, PlainTrace, keywords, keyword_among, is_report, action_at}
 use Rattle.trace_model.specs.Spelling.{blank, line_end, head_text, action_count, report_count, pick_count, header}
 use Rattle.trace_model.specs.declared.cause.TraceCause.{TraceCause}
-use Rattle.trace_model.specs.declared.cause.TraceCause.TheVariants.{BadEnd, BadHeader, BadByte, UnknownWord, Misplaced, BadWords, SameTrack, NoTrack, TooMany}
+use Rattle.trace_model.specs.declared.cause.TraceCause.TheVariants.{BadEnd, BadHeader, BadByte, UnknownWord}
+use Rattle.trace_model.specs.declared.cause.TraceCause.TheVariants.{Misplaced, BadWords, SameTrack, NoTrack}
+use Rattle.trace_model.specs.declared.cause.TraceCause.TheVariants.{TooMany}
 use Rattle.trace_model.specs.declared.keyword.Head.{Head}
 use Rattle.trace_model.specs.declared.keyword.Head.TheVariants as heads
 

@@ -5,7 +5,8 @@
 ghost use Rattle.std.specs.Prelude.{◌≡◌, ◌<◌, ℕ, List, IfSome};
 ghost use Rattle.std.specs.Option.{option_map};
 ghost use Rattle.mem_base.specs.Name.{Name};
-ghost use Rattle.trace_model.specs.Plain.{action_of, keyword_of, keyword_text, keywords, name_of, prints_more, text_at, IsKnownAmong};
+ghost use Rattle.trace_model.specs.Plain.{action_of, keyword_of, keyword_text, keywords, name_of};
+ghost use Rattle.trace_model.specs.Plain.{prints_more, text_at, IsKnownAmong};
 ghost use Rattle.trace_model.specs.Spelling.{head_text};
 
 use mem_base::{Op, TextId};
@@ -140,7 +141,8 @@ impl Head {
 
 /// The number of the name of the block that an operation works on, where it works on one.
 pub fn name_of(op: &Op) -> Option<TextId>
-    ensures name { (texts : List Name) → option_map (text_at texts) result ≡ name_of (action_of texts op.now) }
+    ensures name { (texts : List Name)
+        → option_map (text_at texts) result ≡ name_of (action_of texts op.now) }
     ensures known { (texts : ℕ) → IsKnownAmong texts op.now → IfSome result (λ id. id.0 < texts) }
 {
     match op {

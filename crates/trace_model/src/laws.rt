@@ -10,5 +10,6 @@ pub fn spelt_once()
 
 /// Bytes have no fault exactly where they are the spelling of a trace.
 pub fn read_where_spelt()
-    ensures { (bytes : List ℕ) (t : PlainTrace) → (trace_at bytes ≡ Ok t) ↔ (IsWellFormed t × (bytes ≡ spelling t)) }
+    ensures { (bytes : List ℕ) (t : PlainTrace)
+        → (trace_at bytes ≡ Ok t) ↔ (IsWellFormed t × (bytes ≡ spelling t)) }
 {}
