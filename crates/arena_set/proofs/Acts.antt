@@ -8,8 +8,9 @@ use Rattle.extents.specs.Sums.{tally}
 use Rattle.extents.specs.Extent.{covers, piece_extent}
 use Rattle.extents.proofs.CallerLemmas.{tally-append}
 use Rattle.links.specs.Nodes.{times}
-use Rattle.pool_core.specs.Pool.{HasRoom}
-use Rattle.pool_core.specs.Plain.{CanTake, InRun, OnlyAt, PlainView, StandsFor, home, new_plain}
+use Rattle.layout_model.specs.Pool.{HasRoom}
+use Rattle.layout_model.specs.Plain.{PlainView, StandsFor, new_plain}
+use Rattle.pool_core.specs.Calls.{CanTake, InRun, OnlyAt, home}
 use Rattle.pool_core.proofs.CallerLemmas.{home_one, new_live}
 use Rattle.arena_set.specs.Started.{Started, plain_of, started_from, started_in, started_of}
 use Rattle.arena_set.specs.Flat.{AllSome, flat}

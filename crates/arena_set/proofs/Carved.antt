@@ -6,8 +6,9 @@ use Rattle.raw_region.specs.Cells.{AtHome, AreLent, away, with_run, bytes_of}
 use Rattle.raw_region.proofs.CallerLemmas.{home_inside, home_written, length-away, length-with_run, run_keeps}
 use Rattle.extents.specs.Sums.{Has}
 use Rattle.extents.proofs.CallerLemmas.{has_new}
-use Rattle.pool_core.specs.Pool.{blocks_of, next_block, size_of, after_take, after_give, HasRoom, IsFull, IsEmpty}
-use Rattle.pool_core.specs.Plain.{CanGive, GivenOf, InHeaderOrBlock, InRun, OnlyAt, PlainView, StandsFor, TakenOf, after_giving, after_taking}
+use Rattle.layout_model.specs.Pool.{blocks_of, next_block, size_of, after_take, after_give, HasRoom, IsFull, IsEmpty}
+use Rattle.layout_model.specs.Plain.{PlainView, StandsFor, after_giving, after_taking}
+use Rattle.pool_core.specs.Calls.{CanGive, GivenOf, InHeaderOrBlock, InRun, OnlyAt, TakenOf}
 use Rattle.pool_core.proofs.CallerLemmas.{block_inside, bytes_same, next_within, small_size, stands_block, used_at}
 use Rattle.arena_set.specs.ArenaCalls.{CanMendAt, IsLentAt, LentAt, MendedAt}
 

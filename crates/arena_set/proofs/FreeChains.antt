@@ -8,7 +8,7 @@ use Rattle.layout_model.specs.Geometry.{first_pool, place_at, pool_offset, slot_
 use Rattle.layout_model.proofs.CallerLemmas.{address_tells_slot}
 use Rattle.links.specs.Nodes.{times}
 use Rattle.links.proofs.CallerLemmas.{times-here, times-append}
-use Rattle.pool_core.specs.Plain.{InRun}
+use Rattle.pool_core.specs.Calls.{InRun}
 use Rattle.pool_core.proofs.CallerLemmas.{word_same}
 use Rattle.arena_set.specs.FreeChain.{AreChained, IsFreeList, chain_from, first_place, free_list, numbers_from, untouched}
 use Rattle.arena_set.proofs.Rows.{length-from}

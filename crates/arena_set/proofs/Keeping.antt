@@ -7,8 +7,8 @@ use Rattle.raw_region.proofs.CallerLemmas.{home_part}
 use Rattle.layout_model.specs.Geometry.{first_pool, place_at, pool_offset, slot_at}
 use Rattle.layout_model.proofs.CallerLemmas.{some_pools}
 use Rattle.links.specs.Nodes.{times}
-use Rattle.pool_core.specs.Pool.{IsEmpty}
-use Rattle.pool_core.specs.Plain.{InRun, OnlyAt}
+use Rattle.layout_model.specs.Pool.{IsEmpty}
+use Rattle.pool_core.specs.Calls.{InRun, OnlyAt}
 use Rattle.arena_set.specs.Started.{Started}
 use Rattle.arena_set.specs.FreeChain.{free_list}
 use Rattle.arena_set.specs.Arena.{ArenaView, IsArena, PoolChange, PoolReturns, arena_loans, arena_view, started_times}

@@ -12,8 +12,8 @@ use Rattle.extents.proofs.CallerLemmas.{inserted-map, has_new, same_extent}
 use Rattle.layout_model.specs.Sizes.{size_of_class}
 use Rattle.links.specs.Nodes.{times}
 use Rattle.layout_model.proofs.CallerLemmas.{pools_inside}
-use Rattle.pool_core.specs.Pool.{PoolView, size_of, blocks_of, live_of, next_block, after_take, after_give, HasRoom, IsPool, IsBlock, IsFull, IsEmpty}
-use Rattle.pool_core.specs.Plain.{home, InRun}
+use Rattle.layout_model.specs.Pool.{PoolView, size_of, blocks_of, live_of, next_block, after_take, after_give, HasRoom, IsPool, IsBlock, IsFull, IsEmpty}
+use Rattle.pool_core.specs.Calls.{home, InRun}
 use Rattle.pool_core.proofs.CallerLemmas.{block_inside, Took, took, gave}
 use Rattle.arena_set.specs.Started.{Started, plain_of, started_from}
 use Rattle.arena_set.specs.Flat.{AllSome, flat}

@@ -9,7 +9,7 @@ use Rattle.raw_region.specs.Region.{RegionView}
 use Rattle.layout_model.proofs.CallerLemmas.{some_pools}
 use Rattle.links.specs.Nodes.{times}
 use Rattle.links.proofs.CallerLemmas.{times-here}
-use Rattle.pool_core.specs.Pool.{blocks_of, IsEmpty}
+use Rattle.layout_model.specs.Pool.{blocks_of, IsEmpty}
 use Rattle.arena_set.specs.Started.{Started, started_from, started_in}
 use Rattle.arena_set.specs.Flat.{part, flat}
 use Rattle.layout_model.specs.Geometry.{total_at, first_pool, IsArenaRegion}

@@ -7,8 +7,9 @@ use Rattle.raw_region.specs.Region.{RegionView}
 use Rattle.layout_model.specs.Geometry.{first_pool, pool_offset}
 use Rattle.links.specs.Nodes.{times}
 use Rattle.links.proofs.CallerLemmas.{times-here}
-use Rattle.pool_core.specs.Pool.{IsEmpty}
-use Rattle.pool_core.specs.Plain.{PlainView, InRun, OnlyAt, StandsFor, plain_at}
+use Rattle.layout_model.specs.Pool.{IsEmpty}
+use Rattle.layout_model.specs.Plain.{PlainView, StandsFor, plain_at}
+use Rattle.pool_core.specs.Calls.{InRun, OnlyAt}
 use Rattle.pool_core.proofs.CallerLemmas.{plain_is, stands_apart}
 use Rattle.arena_set.specs.Started.{Started, plain_of, started_from, started_in, started_of}
 use Rattle.arena_set.specs.Arena.{ArenaView, AccountsFor, IsArena, IsSound, PoolReturns, arena_loans, arena_view, started_times}

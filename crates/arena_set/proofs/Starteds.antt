@@ -5,7 +5,8 @@ use Rattle.std.proofs.lemmas.Bool.Decides.{eqb_tells, leb_tells}
 use lib.Seq.{ext_get_or}
 use Rattle.raw_region.specs.Region.{RegionView}
 use Rattle.links.specs.Nodes.{times}
-use Rattle.pool_core.specs.Plain.{PlainView, InRun, OnlyAt, StandsFor, plain_at, home}
+use Rattle.layout_model.specs.Plain.{PlainView, StandsFor, plain_at}
+use Rattle.pool_core.specs.Calls.{InRun, OnlyAt, home}
 use Rattle.pool_core.proofs.CallerLemmas.{plain_is, stands_apart}
 use Rattle.arena_set.specs.Started.{Started, plain_of, started_from, started_in, started_of}
 use Rattle.arena_set.specs.Flat.{flat}

@@ -6,8 +6,9 @@ use Rattle.extents.specs.Sums.{tally}
 use Rattle.extents.specs.Extent.{Extent, covers}
 use Rattle.layout_model.specs.declared.measures.TheConstants.{POOL_BYTES}
 use Rattle.layout_model.specs.Geometry.{first_pool, pool_offset, total_at, IsArenaRegion}
-use Rattle.pool_core.specs.Pool.{size_of, blocks_of, next_block, after_take, after_give, IsPool}
-use Rattle.pool_core.specs.Plain.{home, InRun, StandsFor}
+use Rattle.layout_model.specs.Pool.{size_of, blocks_of, next_block, after_take, after_give, IsPool}
+use Rattle.layout_model.specs.Plain.{StandsFor}
+use Rattle.pool_core.specs.Calls.{home, InRun}
 use Rattle.links.specs.Nodes.{times}
 use Rattle.arena_set.specs.Started.{Started, plain_of, started_from}
 use Rattle.arena_set.specs.Flat.{AllSome, flat}

@@ -8,3 +8,5 @@ pub mod Asks
 pub mod Sound
 pub mod Laws
 pub mod Examples
+pub mod Pool
+pub mod Plain

@@ -1,7 +1,7 @@
 -- Cells stand for one pool at most, which `plain_at` reads off them.
 use Rattle.std.proofs.Common.{◌≡◌, ℕ, ◌+◌, ◌-◌, ◌*◌, ◌/◌, ◌%◌, List, [], ◌∷◌, length, Option, refl, sym, ap, ◌∙◌, arith}
-use Rattle.pool_core.specs.Pool.{size_of, live_of}
-use Rattle.pool_core.specs.Plain.{PlainView, free_from, head_of, header_for, pair_of, plain_at, pool_of_words, AreLinked, StandsFor}
+use Rattle.layout_model.specs.Pool.{size_of, live_of}
+use Rattle.layout_model.specs.Plain.{PlainView, free_from, head_of, header_for, pair_of, plain_at, pool_of_words, AreLinked, StandsFor}
 use Rattle.pool_core.proofs.Stands.{next_within, pair_high, pair_low}
 
 pub free_is : (cells : List (Option ℕ)) (at : ℕ) (os : List ℕ) → AreLinked cells at os → free_from cells at (length os) (head_of os) ≡ os

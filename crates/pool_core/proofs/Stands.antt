@@ -7,8 +7,9 @@ use Rattle.raw_region.specs.Cells.{AtHome, word_at}
 use Rattle.raw_region.proofs.CallerLemmas.{home_part, home_inside}
 use Rattle.extents.specs.Sums.{Has, Inserted}
 use Rattle.layout_model.specs.Sizes.{size_of_class, capacity}
-use Rattle.pool_core.specs.Pool.{PoolView, new_pool, starts, times, size_of, made_of, blocks_of, live_of, next_block, after_take, after_give, HasRoom, IsFull, IsPool, IsBlock}
-use Rattle.pool_core.specs.Plain.{PlainView, header_of, header_for, head_of, pair_of, words_of, after_taking, after_giving, new_plain, AreLinked, StandsFor, InRun, InHeaderOrBlock, OnlyAt, TakenOf, GivenOf}
+use Rattle.layout_model.specs.Pool.{PoolView, new_pool, starts, times, size_of, made_of, blocks_of, live_of, next_block, after_take, after_give, HasRoom, IsFull, IsPool, IsBlock}
+use Rattle.layout_model.specs.Plain.{PlainView, header_of, header_for, head_of, pair_of, words_of, after_taking, after_giving, new_plain, AreLinked, StandsFor}
+use Rattle.pool_core.specs.Calls.{InRun, InHeaderOrBlock, OnlyAt, TakenOf, GivenOf}
 use Rattle.pool_core.proofs.Blocks.{one_here, start_at, in_use, block_inside}
 use Rattle.pool_core.proofs.Moves.{took, gave, new_is_pool}
 use Rattle.pool_core.proofs.Words.{home_kept, word_same, header_same, only_more, only_then}

@@ -5,8 +5,9 @@ use Rattle.raw_region.proofs.CallerLemmas.{all_home, home_zeroed, length-zeroed}
 use Rattle.extents.specs.Sums.{Has}
 use Rattle.extents.proofs.CallerLemmas.{has_other}
 use Rattle.layout_model.specs.Sizes.{size_of_class, capacity}
-use Rattle.pool_core.specs.Pool.{PoolView, starts, without, size_of, made_of, blocks_of, live_of, after_give, IsPool}
-use Rattle.pool_core.specs.Plain.{StandsFor, OnlyAt, CanGive, after_giving}
+use Rattle.layout_model.specs.Pool.{PoolView, starts, without, size_of, made_of, blocks_of, live_of, after_give, IsPool}
+use Rattle.layout_model.specs.Plain.{StandsFor, after_giving}
+use Rattle.pool_core.specs.Calls.{OnlyAt, CanGive}
 use Rattle.pool_core.specs.Tests.{IsWhole, IsTestPool}
 use Rattle.pool_core.proofs.Blocks.{starts_has, without_none}
 use Rattle.pool_core.proofs.Moves.{gave}

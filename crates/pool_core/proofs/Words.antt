@@ -7,7 +7,8 @@ use lib.Seq.{ext_get_or, get_or-take, get_or-drop}
 use lib.ListN.{length-set}
 use Rattle.raw_region.specs.Cells.{at_home, IsHome, AtHome, bytes_of, with_run, word_at}
 use Rattle.raw_region.proofs.CallerLemmas.{run_has, run_keeps, word_written, word_kept, length-with_run}
-use Rattle.pool_core.specs.Plain.{header_of, home, InRun, OnlyAt}
+use Rattle.layout_model.specs.Plain.{header_of}
+use Rattle.pool_core.specs.Calls.{home, InRun, OnlyAt}
 
 -- ---- which cells change
 

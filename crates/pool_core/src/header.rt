@@ -2,7 +2,8 @@
 ghost use Rattle.std.specs.Prelude.{◌≡◌, ◌+◌, ◌*◌, ◌/◌, ◌%◌, ◌<◌, ◌≤◌, get_or, set};
 ghost use Rattle.raw_region.specs.Cells.{AtHome, word_at};
 ghost use Rattle.layout_model.specs.declared.measures.TheConstants.{HEADER_BYTES};
-ghost use Rattle.pool_core.specs.Plain.{header_of, pair_of, InRun, OnlyAt};
+ghost use Rattle.layout_model.specs.Plain.{header_of, pair_of};
+ghost use Rattle.pool_core.specs.Calls.{InRun, OnlyAt};
 
 use raw_region::Region;
 

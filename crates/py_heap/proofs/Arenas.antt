@@ -8,7 +8,7 @@ use Rattle.extents.specs.Sums.{tally, Has, Removed}
 use Rattle.extents.specs.Extent.{Extent, covers, region_extent}
 use Rattle.extents.proofs.CallerLemmas.{has_left, has_right, has_either, has-map, inserted_first}
 use Rattle.layout_model.specs.Sizes.{capacity}
-use Rattle.pool_core.specs.Pool.{blocks_of, size_of, IsPool}
+use Rattle.layout_model.specs.Pool.{blocks_of, size_of, IsPool}
 use Rattle.layout_model.proofs.CallerLemmas.{some_pools, pools_are_in_arenas, in_arena_covers}
 use Rattle.arena_set.specs.declared.pool_id.PoolId.{PoolId}
 use Rattle.arena_set.specs.Started.{Started}

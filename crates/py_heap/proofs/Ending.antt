@@ -11,7 +11,7 @@ use Rattle.links.specs.Nodes.{times}
 use Rattle.sources.specs.Source.{SourceView, ArenaShape}
 use Rattle.sources.specs.Holder.{Traded}
 use Rattle.sources.proofs.CallerLemmas.{traded_gave, traded_then}
-use Rattle.pool_core.specs.Pool.{blocks_of, live_of, size_of}
+use Rattle.layout_model.specs.Pool.{blocks_of, live_of, size_of}
 use Rattle.heap_model.proofs.CallerLemmas.{arenas_are_free, tally_some, empty_tables_are_kept}
 use Rattle.layout_model.specs.Geometry.{total_at, pool_offset, Site, in_arena, ArenaHas, PoolLine}
 use Rattle.arena_set.specs.Arena.{ArenaView, pool_loans, block_extent, arena_loans}

@@ -9,7 +9,7 @@ use Rattle.extents.specs.Extent.{Extent, piece_extent, AreApart, region_extent}
 use Rattle.extents.proofs.CallerLemmas.{tally_has, tally_replaced, length_inserted}
 use Rattle.layout_model.specs.Sizes.{capacity}
 use Rattle.layout_model.proofs.CallerLemmas.{many, some_pools}
-use Rattle.pool_core.specs.Pool.{live_of, blocks_of, size_of, after_give}
+use Rattle.layout_model.specs.Pool.{live_of, blocks_of, size_of, after_give}
 use Rattle.pool_core.proofs.CallerLemmas.{gave, block_inside}
 use Rattle.heap_model.specs.Tables.{with_one_less}
 use Rattle.heap_model.specs.Laws.{IsUnplaced}

@@ -12,8 +12,8 @@ use Rattle.extents.proofs.CallerLemmas.{tally_inserted, length_inserted, inserte
 use Rattle.layout_model.specs.Sizes.{size_of_class, capacity}
 use Rattle.layout_model.proofs.CallerLemmas.{many}
 use Rattle.links.specs.Nodes.{times}
-use Rattle.pool_core.specs.Pool.{PoolView, live_of, new_pool, HasRoom}
-use Rattle.pool_core.specs.Plain.{new_plain}
+use Rattle.layout_model.specs.Pool.{PoolView, live_of, new_pool, HasRoom}
+use Rattle.layout_model.specs.Plain.{new_plain}
 use Rattle.pool_core.proofs.CallerLemmas.{new_is_pool}
 use Rattle.layout_model.specs.Geometry.{PoolLine}
 use Rattle.heap_model.specs.Tables.{spot_of, with_one_more}

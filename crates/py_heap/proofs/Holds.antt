@@ -11,8 +11,8 @@ use Rattle.layout_model.specs.Layout.{Used}
 use Rattle.layout_model.specs.Sizes.{size_of_class}
 use Rattle.layout_model.specs.Geometry.{IsArenaRegion, PoolLine, pool_offset}
 use Rattle.layout_model.specs.Place.{HasPool}
-use Rattle.pool_core.specs.Pool.{blocks_of, live_of, size_of, IsPool}
-use Rattle.pool_core.specs.Plain.{StandsFor}
+use Rattle.layout_model.specs.Pool.{blocks_of, live_of, size_of, IsPool}
+use Rattle.layout_model.specs.Plain.{StandsFor}
 use Rattle.pool_core.proofs.CallerLemmas.{block_inside, gave}
 use Rattle.heap_model.specs.View.{used_pool}
 use Rattle.heap_model.specs.Kept.{has_number}

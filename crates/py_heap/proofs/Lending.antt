@@ -8,7 +8,7 @@ use Rattle.extents.specs.Sums.{tally, Has, Inserted, Replaced}
 use Rattle.extents.specs.Extent.{Extent, region_extent, piece_extent, AreApart}
 use Rattle.extents.proofs.CallerLemmas.{tally_replaced, length_inserted}
 use Rattle.layout_model.specs.Sizes.{size_of_class, capacity}
-use Rattle.pool_core.specs.Pool.{HasRoom, IsPool}
+use Rattle.layout_model.specs.Pool.{HasRoom, IsPool}
 use Rattle.pool_core.proofs.CallerLemmas.{took}
 use Rattle.layout_model.specs.Geometry.{PoolLine}
 use Rattle.heap_model.specs.Tables.{Spot, spot_of, with_one_more}

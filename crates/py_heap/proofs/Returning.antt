@@ -10,7 +10,7 @@ use Rattle.extents.proofs.CallerLemmas.{tally_has, tally_inserted, length_insert
 use Rattle.layout_model.specs.Sizes.{capacity}
 use Rattle.layout_model.specs.Unplace.{find_arena, without_arena, put_arena, is_last}
 use Rattle.layout_model.proofs.CallerLemmas.{many}
-use Rattle.pool_core.specs.Pool.{IsEmpty}
+use Rattle.layout_model.specs.Pool.{IsEmpty}
 use Rattle.heap_model.specs.Tables.{Tables, with_one_less}
 use Rattle.heap_model.specs.View.{places_of}
 use Rattle.heap_model.specs.Kept.{has_number}

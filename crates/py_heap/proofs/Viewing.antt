@@ -13,7 +13,7 @@ use Rattle.extents.proofs.CallerLemmas.{tally-map, tally-set, tally_zero, has_at
 use Rattle.layout_model.specs.Sizes.{capacity}
 use Rattle.layout_model.specs.Layout.{Layout}
 use Rattle.layout_model.specs.Place.{pools_of_class}
-use Rattle.pool_core.specs.Pool.{live_of}
+use Rattle.layout_model.specs.Pool.{live_of}
 use Rattle.layout_model.specs.Geometry.{PoolLine}
 use Rattle.heap_model.specs.Tables.{spot_of}
 use Rattle.heap_model.specs.View.{used_at, full_pool, full_in as full_by, full_of}

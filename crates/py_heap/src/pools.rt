@@ -5,7 +5,7 @@ ghost use Rattle.std.specs.Prelude.{◌≡◌, ℕ, ◌+◌, ◌^◌, ◌<◌, �
 ghost use Rattle.mem_base.specs.declared.history.Grant.TheVariants.{NotAsked};
 ghost use Rattle.extents.specs.Sums.{tally, AllIn};
 ghost use Rattle.extents.specs.Extent.{covers};
-ghost use Rattle.pool_core.specs.Pool.{new_pool};
+ghost use Rattle.layout_model.specs.Pool.{new_pool};
 ghost use Rattle.sources.specs.Holder.{AskedNothing, Traded};
 ghost use Rattle.layout_model.specs.Geometry.{total_at};
 ghost use Rattle.arena_set.specs.Set.{loans_of, regions_of, usable_of, IsSet};

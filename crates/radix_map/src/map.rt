@@ -45,7 +45,8 @@ impl RadixMap {
         requires page { base % 4096 ≡ 0 }
         requires below { base + 1048576 ≤ 2 ^ 48 }
         requires free { IsFree base self.old }
-        ensures { MatchResult result (λ _. Inserted (record { arena = index; base = base }) self.old self.new) (λ _. self.new ≡ self.old) }
+        ensures { MatchResult result (λ _. Inserted (record { arena = index; base = base }) self.old self.new)
+            (λ _. self.new ≡ self.old) }
     {
         let at = (base / MIB) as usize;
         let bound = (base % MIB) as u32;

@@ -1,8 +1,9 @@
 use Rattle.std.proofs.Common.{◌≡◌, ◌+◌, ◌-◌, refl, subst, ap, ◌∙◌, arith, get_or, set}
 use Rattle.raw_region.proofs.CallerLemmas.{home_part}
 use Rattle.raw_region.specs.Cells.{AtHome}
-use Rattle.pool_core.specs.Pool.{size_of}
-use Rattle.pool_core.specs.Plain.{header_of, InRun, OnlyAt, PlainView}
+use Rattle.layout_model.specs.Pool.{size_of}
+use Rattle.layout_model.specs.Plain.{header_of, PlainView}
+use Rattle.pool_core.specs.Calls.{InRun, OnlyAt}
 use Rattle.pool_core.proofs.Plains.{plain_once}
 use Rattle.pool_core.proofs.Moves.{tests_alike}
 use Rattle.pool_core.proofs.Words.{only_then}

@@ -2,7 +2,7 @@ use Rattle.std.proofs.Common.{◌≤◌, ◌+◌, length, refl, sym, ap, subst, 
 use Rattle.std.specs.Int.{to_le_bytes, w64}
 use Rattle.raw_region.specs.Cells.{word_at}
 use Rattle.raw_region.proofs.CallerLemmas.{home_inside, word_written}
-use Rattle.pool_core.specs.Plain.{InRun, OnlyAt}
+use Rattle.pool_core.specs.Calls.{InRun, OnlyAt}
 use Rattle.pool_core.proofs.Words.{header_same, home_kept, only_written}
 use Rattle.pool_core.proofs.bytes.link.Goals as goal
 

@@ -1,4 +1,5 @@
-use Rattle.pool_core.specs.Plain.{InRun, OnlyAt, after_taking}
+use Rattle.layout_model.specs.Plain.{after_taking}
+use Rattle.pool_core.specs.Calls.{InRun, OnlyAt}
 use Rattle.pool_core.proofs.Words.{only_then}
 use Rattle.pool_core.proofs.Stands.{take_done, take_stands}
 use Rattle.pool_core.proofs.bytes.take.Goals as goal

@@ -1,7 +1,8 @@
 use Rattle.std.proofs.Common.{◌*◌, ◌+◌, refl, sym, ◌∙◌, ap, subst, arith}
 use Rattle.std.specs.Int.{to_le_bytes, w64}
 use Rattle.raw_region.proofs.CallerLemmas.{home_part, home_inside}
-use Rattle.pool_core.specs.Plain.{header_of, InRun, OnlyAt}
+use Rattle.layout_model.specs.Plain.{header_of}
+use Rattle.pool_core.specs.Calls.{InRun, OnlyAt}
 use Rattle.pool_core.proofs.Words.{header_written, home_kept, only_more, only_written}
 use Rattle.pool_core.proofs.header.set_word.Goals as goal
 

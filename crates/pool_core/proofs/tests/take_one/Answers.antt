@@ -1,7 +1,7 @@
 use Rattle.std.proofs.Common.{◌≡◌, ◌+◌, ap, ◌∙◌, arith}
 use Rattle.layout_model.specs.Sizes.{capacity}
-use Rattle.pool_core.specs.Pool.{HasRoom}
-use Rattle.pool_core.specs.Plain.{after_taking}
+use Rattle.layout_model.specs.Pool.{HasRoom}
+use Rattle.layout_model.specs.Plain.{after_taking}
 use Rattle.pool_core.proofs.TestLemmas.{whole_kept}
 use Rattle.pool_core.proofs.tests.take_one.Goals as goal
 

@@ -1,5 +1,5 @@
 use Rattle.std.proofs.Common.{◌≡◌, ◌-◌, ◌<◌, get_or, Some, None, refl, sym, ap, subst, ◌∙◌, length, length-set, arith}
-use Rattle.pool_core.specs.Plain.{new_plain}
+use Rattle.layout_model.specs.Plain.{new_plain}
 use Rattle.arena_set.specs.Started.{Started, started_of}
 use Rattle.arena_set.specs.Arena.{ArenaView}
 use Rattle.arena_set.specs.Kept.{spare_of}
