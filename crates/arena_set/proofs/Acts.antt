@@ -1,5 +1,5 @@
 -- What calls on an arena's region do to the arena.
-use Rattle.std.proofs.Common.{◌≡◌, ◌≢◌, ℕ, zero, suc, ◌+◌, ◌-◌, ◌*◌, ◌<◌, ◌≤◌, ◌⊎◌, inl, inr, IsSome, Bool, List, [], ◌∷◌, length, get_or, set, Option, Some, None, refl, sym, ap, subst, ◌∙◌, arith, length-set}
+use Rattle.std.proofs.Common.{◌≡◌, ◌≢◌, ℕ, zero, suc, ◌+◌, ◌<◌, ◌≤◌, ◌⊎◌, inl, inr, IsSome, Bool, List, [], ◌∷◌, length, get_or, set, Option, Some, None, refl, sym, ap, subst, ◌∙◌, arith, length-set}
 use Rattle.std.proofs.lemmas.List.{get_or-set_same, get_or-set_other}
 use Rattle.raw_region.specs.declared.maker.Maker.{Maker}
 use Rattle.raw_region.specs.Cells.{AtHome}
@@ -10,12 +10,12 @@ use Rattle.extents.proofs.CallerLemmas.{tally-append}
 use Rattle.links.specs.Nodes.{times}
 use Rattle.layout_model.specs.Pool.{HasRoom}
 use Rattle.layout_model.specs.Plain.{PlainView, StandsFor, new_plain}
-use Rattle.pool_core.specs.Calls.{CanTake, InRun, OnlyAt, home}
+use Rattle.pool_core.specs.Calls.{CanTake, InRun, OnlyAt}
 use Rattle.pool_core.proofs.CallerLemmas.{home_one, new_live}
 use Rattle.arena_set.specs.Started.{Started, plain_of, started_from, started_in, started_of}
 use Rattle.arena_set.specs.Flat.{AllSome, flat}
 use Rattle.layout_model.specs.Geometry.{first_pool, pool_offset}
-use Rattle.arena_set.specs.Arena.{ArenaView, after_lending, after_mending, arena_loans, arena_view, pool_loans, started_times, AccountsFor, IsArena, IsSound, PoolChange}
+use Rattle.arena_set.specs.Arena.{ArenaView, after_lending, after_mending, arena_loans, arena_view, pool_loans, AccountsFor, IsArena, IsSound, PoolChange}
 use Rattle.arena_set.specs.ArenaCalls.{ArenaLends, ArenaMends, CanLendPool, CanMendAt, CanMendPiece, IsLentAt, LentAt, MendedAt}
 use Rattle.arena_set.proofs.Flats.{inside, part_same, some_same}
 use Rattle.arena_set.proofs.Geometry.{pool_once, pools_once}

@@ -1,16 +1,16 @@
 -- A block that goes from the cells of its pool, and comes home to them.
-use Rattle.std.proofs.Common.{◌≡◌, ◌↔◌, ℕ, ◌+◌, ◌-◌, ◌<◌, ◌≤◌, ◌⊎◌, inl, inr, Bool, IsTrue, List, map, length, get_or, replicate, Option, Some, None, refl, sym, ap, subst, ◌∙◌, arith}
+use Rattle.std.proofs.Common.{◌≡◌, ◌↔◌, ℕ, ◌+◌, ◌-◌, ◌≤◌, inl, inr, Bool, IsTrue, List, map, length, replicate, Option, Some, None, sym, ap, subst, ◌∙◌, arith}
 use Rattle.std.proofs.lemmas.List.{length-map, length-replicate}
 use Rattle.raw_region.specs.Region.{RegionView, PieceView}
 use Rattle.raw_region.specs.Cells.{AtHome, AreLent, away, with_run, bytes_of}
-use Rattle.raw_region.proofs.CallerLemmas.{home_inside, home_written, length-away, length-with_run, run_keeps}
+use Rattle.raw_region.proofs.CallerLemmas.{home_written, length-away, length-with_run, run_keeps}
 use Rattle.extents.specs.Sums.{Has}
 use Rattle.extents.proofs.CallerLemmas.{has_new}
-use Rattle.layout_model.specs.Pool.{blocks_of, next_block, size_of, after_take, after_give, HasRoom, IsFull, IsEmpty}
+use Rattle.layout_model.specs.Pool.{blocks_of, next_block, size_of, after_take, after_give, IsEmpty}
 use Rattle.layout_model.specs.Plain.{PlainView, StandsFor, after_giving, after_taking}
 use Rattle.pool_core.specs.Calls.{CanGive, GivenOf, InHeaderOrBlock, InRun, OnlyAt, TakenOf}
-use Rattle.pool_core.proofs.CallerLemmas.{block_inside, bytes_same, next_within, small_size, stands_block, used_at}
-use Rattle.arena_set.specs.ArenaCalls.{CanMendAt, IsLentAt, LentAt, MendedAt}
+use Rattle.pool_core.proofs.CallerLemmas.{bytes_same, next_within, small_size, stands_block, used_at}
+use Rattle.arena_set.specs.ArenaCalls.{IsLentAt, LentAt, MendedAt}
 
 -- where a block in use ends
 block_high : (p : PlainView) (at off : ℕ) (cells : List (Option ℕ)) → StandsFor cells at p → Has off (blocks_of p.pool) → at + off + size_of p.pool ≤ length cells

@@ -1,10 +1,10 @@
 -- The list of an arena's free pools, as one goes, comes, or other cells change.
-use Rattle.std.proofs.Common.{◌≡◌, ◌≢◌, ℕ, zero, suc, ◌+◌, ◌-◌, ◌*◌, ◌/◌, ◌<◌, ◌≤◌, inl, inr, List, [], ◌∷◌, ◌++◌, length, get_or, Option, Some, None, refl, sym, ap, subst, ◌∙◌, arith}
+use Rattle.std.proofs.Common.{◌≡◌, ◌≢◌, ℕ, suc, ◌+◌, ◌-◌, ◌≤◌, inl, inr, List, [], ◌∷◌, ◌++◌, length, get_or, Option, None, refl, sym, ap, subst, ◌∙◌, arith}
 use Rattle.std.proofs.lemmas.List.{length-append}
-use Rattle.std.proofs.lemmas.Bool.Decides.{eqb_tells, leb_tells}
+use Rattle.std.proofs.lemmas.Bool.Decides.{leb_tells}
 use Rattle.raw_region.specs.Region.{RegionView}
 use Rattle.raw_region.specs.Cells.{word_at}
-use Rattle.layout_model.specs.Geometry.{first_pool, place_at, pool_offset, slot_at, total_at}
+use Rattle.layout_model.specs.Geometry.{place_at, pool_offset, slot_at, total_at}
 use Rattle.layout_model.proofs.CallerLemmas.{address_tells_slot}
 use Rattle.links.specs.Nodes.{times}
 use Rattle.links.proofs.CallerLemmas.{times-here, times-append}

@@ -1,5 +1,5 @@
 -- What always holds of an arena's fields, after a change of one pool that is not free.
-use Rattle.std.proofs.Common.{◌≡◌, ◌≢◌, ℕ, ◌+◌, ◌-◌, ◌*◌, ◌/◌, ◌<◌, ◌≤◌, List, ◌∷◌, length, get_or, set, Option, Some, None, refl, sym, ap, subst, ◌∙◌, arith}
+use Rattle.std.proofs.Common.{◌≡◌, ◌≢◌, ℕ, ◌+◌, ◌-◌, ◌/◌, ◌<◌, ◌≤◌, List, ◌∷◌, length, get_or, set, Option, Some, None, refl, sym, ap, subst, ◌∙◌, arith}
 use Rattle.std.specs.Option.{ForSome}
 use Rattle.raw_region.specs.Region.{RegionView}
 use Rattle.raw_region.specs.Cells.{AtHome, word_at}
@@ -11,9 +11,9 @@ use Rattle.layout_model.specs.Pool.{IsEmpty}
 use Rattle.pool_core.specs.Calls.{InRun, OnlyAt}
 use Rattle.arena_set.specs.Started.{Started}
 use Rattle.arena_set.specs.FreeChain.{free_list}
-use Rattle.arena_set.specs.Arena.{ArenaView, IsArena, PoolChange, PoolReturns, arena_loans, arena_view, started_times}
+use Rattle.arena_set.specs.Arena.{ArenaView, IsArena, PoolChange, PoolReturns, arena_loans, arena_view}
 use Rattle.arena_set.specs.Kept.{IsKept}
-use Rattle.arena_set.proofs.Pools.{free_left, only_none, took_pool}
+use Rattle.arena_set.proofs.Pools.{free_left, took_pool}
 use Rattle.arena_set.proofs.Lending.{pool_fits}
 use Rattle.arena_set.proofs.Acts.{idle_home}
 use Rattle.arena_set.proofs.FreeChains.{counted, front, front_free, front_is, front_place, more_listed, one_more, same_list, still_listed, took_linked, took_untouched}

@@ -1,9 +1,8 @@
 -- A pool of an arena that lends a block, or has one back.
-use Rattle.std.proofs.Common.{◌≡◌, ◌≢◌, ℕ, ◌+◌, ◌-◌, ◌%◌, ◌<◌, ◌≤◌, ◌⊎◌, inl, inr, ◌↔◌, Bool, IsTrue, List, [], ◌∷◌, map, length, get_or, set, replicate, Option, Some, None, refl, sym, ap, subst, ◌∙◌, arith, add_assoc, length-set}
+use Rattle.std.proofs.Common.{◌≡◌, ◌≢◌, ℕ, ◌+◌, ◌-◌, ◌%◌, ◌<◌, ◌≤◌, inl, inr, ◌↔◌, Bool, IsTrue, List, [], ◌∷◌, map, length, get_or, set, replicate, Option, Some, None, refl, sym, ap, subst, ◌∙◌, arith, add_assoc, length-set}
 use Rattle.std.proofs.lemmas.List.{get_or-set_same, set-set, set-get_or, get_or-map, length-map, length-replicate}
 use Rattle.std.proofs.lemmas.Bool.Decides.{leb_tells}
 use Rattle.raw_region.specs.declared.maker.Maker.{Maker}
-use Rattle.raw_region.specs.Cells.{away, with_run, bytes_of}
 use Rattle.raw_region.specs.Region.{RegionView, PieceView}
 use Rattle.raw_region.proofs.CallerLemmas.{length-with_run, length-away, run_has, run_keeps}
 use Rattle.extents.specs.Sums.{tally, Has, Inserted, Removed}
@@ -12,7 +11,7 @@ use Rattle.extents.proofs.CallerLemmas.{inserted-map, has_new, same_extent}
 use Rattle.layout_model.specs.Sizes.{size_of_class}
 use Rattle.links.specs.Nodes.{times}
 use Rattle.layout_model.proofs.CallerLemmas.{pools_inside}
-use Rattle.layout_model.specs.Pool.{PoolView, size_of, blocks_of, live_of, next_block, after_take, after_give, HasRoom, IsPool, IsBlock, IsFull, IsEmpty}
+use Rattle.layout_model.specs.Pool.{PoolView, size_of, blocks_of, live_of, next_block, after_take, after_give, HasRoom, IsPool, IsBlock, IsEmpty}
 use Rattle.pool_core.specs.Calls.{home, InRun}
 use Rattle.pool_core.proofs.CallerLemmas.{block_inside, Took, took, gave}
 use Rattle.arena_set.specs.Started.{Started, plain_of, started_from}

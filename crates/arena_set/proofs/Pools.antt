@@ -1,6 +1,6 @@
 -- Pools of an arena that are taken, started, and come back.
-use Rattle.std.proofs.Common.{◌≡◌, ℕ, zero, suc, ◌+◌, ◌-◌, ◌*◌, ◌%◌, ◌<◌, ◌≤◌, ◌≢◌, inl, inr, List, [], ◌∷◌, ◌++◌, map, length, get_or, set, take, replicate, Option, Some, None, refl, sym, ap, subst, ◌∙◌, arith, length-set}
-use Rattle.std.proofs.lemmas.List.{get_or-set_same, get_or-set_other, length-replicate, take-replicate}
+use Rattle.std.proofs.Common.{◌≡◌, ℕ, zero, suc, ◌+◌, ◌-◌, ◌<◌, ◌≤◌, ◌≢◌, inl, inr, List, [], ◌∷◌, ◌++◌, map, length, get_or, set, take, replicate, Option, Some, None, refl, sym, ap, subst, ◌∙◌, arith}
+use Rattle.std.proofs.lemmas.List.{length-replicate, take-replicate}
 use Rattle.std.proofs.lemmas.Bool.Decides.{eqb_tells}
 use Rattle.std.specs.Option.{ForSome}
 use Rattle.raw_region.specs.declared.maker.Maker.{Maker}
@@ -8,16 +8,14 @@ use Rattle.raw_region.specs.Cells.{AllHome}
 use Rattle.raw_region.specs.Region.{RegionView}
 use Rattle.layout_model.proofs.CallerLemmas.{some_pools}
 use Rattle.links.specs.Nodes.{times}
-use Rattle.links.proofs.CallerLemmas.{times-here}
 use Rattle.layout_model.specs.Pool.{blocks_of, IsEmpty}
-use Rattle.arena_set.specs.Started.{Started, started_from, started_in}
+use Rattle.arena_set.specs.Started.{Started, started_from}
 use Rattle.arena_set.specs.Flat.{part, flat}
 use Rattle.layout_model.specs.Geometry.{total_at, first_pool, IsArenaRegion}
 use Rattle.arena_set.specs.FreeChain.{IsFreeList, chain_from, free_list, numbers_from, untouched}
 use Rattle.arena_set.specs.Arena.{ArenaView, new_arena, pool_loans, arena_loans, started_times, arena_view, AccountsFor, IsSound, IsArena}
-use Rattle.arena_set.proofs.Flats.{all_set, all_gap, all_none, part_same, flat_none, flat_empty}
+use Rattle.arena_set.proofs.Flats.{all_none, part_same, flat_none, flat_empty}
 use Rattle.arena_set.proofs.Rows.{row_times, row_most, row_missing, row_all, times_from}
-use Rattle.arena_set.proofs.Starteds.{length-started, started_at, started_is}
 use Rattle.arena_set.proofs.Accounts.{none_lent, all_counted}
 
 pub times_other : (j k : ℕ) (xs : List ℕ) → k ≢ j → times j (k ∷ xs) ≡ times j xs

@@ -1,5 +1,5 @@
 -- Pools as the bytes of their arena tell them, when one of them changes.
-use Rattle.std.proofs.Common.{◌≡◌, ◌≢◌, ℕ, zero, suc, ◌+◌, ◌*◌, ◌%◌, ◌<◌, ◌≤◌, ◌⊎◌, inl, inr, List, [], ◌∷◌, length, get_or, set, Option, Some, None, refl, sym, ap, subst, ◌∙◌, arith, length-set}
+use Rattle.std.proofs.Common.{◌≡◌, ◌≢◌, ℕ, zero, suc, ◌+◌, ◌*◌, ◌<◌, ◌≤◌, inl, inr, List, [], ◌∷◌, length, get_or, set, Option, Some, None, refl, sym, ap, subst, ◌∙◌, arith, length-set}
 use Rattle.std.proofs.lemmas.List.{get_or-set_same, get_or-set_other}
 use Rattle.std.proofs.lemmas.Bool.Decides.{eqb_tells, leb_tells}
 use lib.Seq.{ext_get_or}
@@ -9,9 +9,8 @@ use Rattle.layout_model.specs.Plain.{PlainView, StandsFor, plain_at}
 use Rattle.pool_core.specs.Calls.{InRun, OnlyAt, home}
 use Rattle.pool_core.proofs.CallerLemmas.{plain_is, stands_apart}
 use Rattle.arena_set.specs.Started.{Started, plain_of, started_from, started_in, started_of}
-use Rattle.arena_set.specs.Flat.{flat}
-use Rattle.layout_model.specs.Geometry.{first_pool, pool_offset, total_at}
-use Rattle.arena_set.specs.Arena.{ArenaView, pool_loans, arena_loans, started_times, AccountsFor, AllStand, IsSound, IsArena, PoolChange}
+use Rattle.layout_model.specs.Geometry.{first_pool, pool_offset}
+use Rattle.arena_set.specs.Arena.{ArenaView, arena_loans, started_times, AccountsFor, AllStand, IsSound, IsArena, PoolChange}
 use Rattle.arena_set.proofs.Flats.{all_set}
 
 -- ---- the pools by their numbers

@@ -1,5 +1,5 @@
 -- One arena: its pools, and what is lent of them.
-use Rattle.std.specs.Prelude.{◌≡◌, ℕ, zero, suc, ◌+◌, ◌-◌, ◌*◌, ◌%◌, ◌<◌, ◌≤◌, ◌==◌, if◌then◌else◌, List, [], ◌∷◌, length, map, get_or, set, replicate, Option, Some, None}
+use Rattle.std.specs.Prelude.{◌≡◌, ℕ, ◌+◌, ◌-◌, ◌<◌, ◌≤◌, List, ◌∷◌, length, map, get_or, set, replicate, Option, Some, None}
 use Rattle.raw_region.specs.declared.maker.Maker.{Maker}
 use Rattle.raw_region.specs.Region.{RegionView, PieceView}
 use Rattle.extents.specs.Sums.{tally}

@@ -1,7 +1,7 @@
 -- Where arenas stand, and where the pools of an arena do.
-use Rattle.std.specs.Prelude.{◌≡◌, ℕ, ◌+◌, ◌-◌, ◌*◌, ◌/◌, ◌%◌, ◌<◌, ◌≤◌, ◌==◌, nat_le, if◌then◌else◌, length}
+use Rattle.std.specs.Prelude.{◌≡◌, ℕ, ◌+◌, ◌-◌, ◌*◌, ◌/◌, ◌%◌, ◌<◌, ◌≤◌, ◌==◌, nat_le, if◌then◌else◌, List, [], ◌∷◌, length, Option, Some, None}
 use Rattle.raw_region.specs.Region.{RegionView}
-use Rattle.extents.specs.Extent.{Extent}
+use Rattle.extents.specs.Extent.{Extent, region_extent}
 use Rattle.layout_model.specs.declared.measures.TheConstants.{ARENA_BYTES, PAGE_BYTES, POOL_BYTES}
 
 -- ---- arenas
@@ -11,6 +11,12 @@ pub record IsArenaRegion (r : RegionView) : Type 0 where
   pub len : length r.cells ≡ ARENA_BYTES
   pub aligned : r.base % PAGE_BYTES ≡ 0
   pub somewhere : 1 ≤ r.base
+
+-- the regions of the arenas that are there
+abbrev pub held_extents : List (Option RegionView) → List Extent
+held_extents [] = []
+held_extents (None ∷ arenas) = held_extents arenas
+held_extents (Some r ∷ arenas) = region_extent r ∷ held_extents arenas
 
 -- an arena that is out: its number, and the address where it begins
 pub record Site : Type 0 where

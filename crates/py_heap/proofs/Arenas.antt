@@ -1,12 +1,11 @@
 -- Arenas, pools, blocks and regions of a set, found in its lists and in its table.
-use Rattle.std.proofs.Common.{◌≡◌, ℕ, zero, suc, ◌+◌, ◌-◌, ◌*◌, ◌%◌, ◌<◌, ◌≤◌, inl, inr, List, [], ◌∷◌, ◌++◌, map, length, get_or, set, Option, Some, None, refl, sym, ap, subst, ◌∙◌, arith}
-use Rattle.std.proofs.lemmas.Bool.Decides.{eqb_tells}
+use Rattle.std.proofs.Common.{◌≡◌, ℕ, zero, suc, ◌+◌, ◌-◌, ◌*◌, ◌<◌, ◌≤◌, inl, inr, List, [], ◌∷◌, ◌++◌, map, length, get_or, set, Option, Some, None, refl, sym, ap, subst, ◌∙◌, arith}
 use Rattle.std.proofs.lemmas.List.{length-append, length-map}
 use Rattle.std.proofs.Math.Nat.{mul-div-le, mul-le-mul_right}
 use native.Mathlib.Numerals.{unary_clauses}
 use Rattle.extents.specs.Sums.{tally, Has, Removed}
 use Rattle.extents.specs.Extent.{Extent, covers, region_extent}
-use Rattle.extents.proofs.CallerLemmas.{has_left, has_right, has_either, has-map, inserted_first}
+use Rattle.extents.proofs.CallerLemmas.{has_left, has_right, has_either, inserted_first}
 use Rattle.layout_model.specs.Sizes.{capacity}
 use Rattle.layout_model.specs.Pool.{blocks_of, size_of, IsPool}
 use Rattle.layout_model.proofs.CallerLemmas.{some_pools, pools_are_in_arenas, in_arena_covers}
@@ -15,11 +14,11 @@ use Rattle.arena_set.specs.Started.{Started}
 use Rattle.arena_set.specs.Flat.{AllSome, part, flat}
 use Rattle.layout_model.specs.Geometry.{total_at, pool_offset, Site, in_arena, PoolLine}
 use Rattle.arena_set.specs.Arena.{ArenaView, block_extent, pool_loans, arena_loans, IsArena, IsSound}
-use Rattle.arena_set.specs.Set.{SetView, pool_line, pools_of, regions_of, loans_of, IsSet}
+use Rattle.arena_set.specs.Set.{SetView, pool_line, regions_of, loans_of, IsSet, region_in}
 use Rattle.arena_set.specs.Calls.{IsAt, IsStarted}
-use Rattle.arena_set.proofs.CallerLemmas.{inside, all_at, part_same, part_removed, flat_push}
+use Rattle.arena_set.proofs.CallerLemmas.{inside, all_at, part_same, part_removed, flat_push, regions_flat}
 use Rattle.py_heap.specs.Heap.{PoolInRegion}
-use Rattle.py_heap.specs.Kept.{lines_of, sites_of, region_in}
+use Rattle.py_heap.specs.Kept.{lines_of, sites_of}
 
 -- ---- lists made of parts
 
@@ -107,7 +106,9 @@ started_once v id a b s t x y =
 -- ---- regions, and blocks
 
 pub region_there : (v : SetView) (n : ℕ) (a : ArenaView) → IsAt v n a → Has (region_extent a.region) (regions_of v.arenas)
-region_there v n a at = let some = at.some in flat_has (λ n a. region_extent a.region ∷ []) 1 (n - 1) n v.arenas a (region_extent a.region) (omega arith) at.there (inl refl)
+region_there v n a at =
+    let some = at.some in
+    subst (Has (region_extent a.region)) (sym (regions_flat 1 v.arenas)) (flat_has (λ n a. region_extent a.region ∷ []) 1 (n - 1) n v.arenas a (region_extent a.region) (omega arith) at.there (inl refl))
 
 pub arena_at : (v : SetView) (n : ℕ) (a : ArenaView) → IsSet v → IsAt v n a → IsArena a
 arena_at v n a s at = all_at IsArena v.arenas (n - 1) a s.arenas at.there
@@ -166,7 +167,7 @@ covers_sum p n (None ∷ os) s = covers_sum p (n + 1) os s
 covers_sum p n (Some a ∷ os) s = let i = covers_sum p (n + 1) os s.1 in let e = in_arena_covers p n a.region s.0.region.len in omega arith
 
 pub sites_cover : (v : SetView) (p : ℕ) → IsSet v → tally (in_arena p) (sites_of v.arenas) ≡ tally (covers p) (regions_of v.arenas)
-sites_cover v p s = covers_sum p 1 v.arenas s.arenas
+sites_cover v p s = covers_sum p 1 v.arenas s.arenas ∙ ap (tally (covers p)) (sym (regions_flat 1 v.arenas))
 
 -- ---- how many there are
 

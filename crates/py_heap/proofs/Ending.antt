@@ -18,7 +18,7 @@ use Rattle.arena_set.specs.Arena.{ArenaView, pool_loans, block_extent, arena_loa
 use Rattle.arena_set.specs.Set.{SetView, empty_set, line_of as usable_line, dry_of, dry_entry, usable_of, usable_times, regions_of, loans_of, IsSet}
 use Rattle.arena_set.specs.Calls.{IsAt, AllIdle, HasNone, EndsOne}
 use Rattle.arena_set.specs.Flat.{part}
-use Rattle.arena_set.proofs.CallerLemmas.{inside, flat_empty}
+use Rattle.arena_set.proofs.CallerLemmas.{inside, flat_empty, regions_flat}
 use Rattle.py_heap.specs.Heap.{empty_heap}
 use Rattle.py_heap.specs.Kept.{ClassView, State, no_pools, lines_of, sites_of, tables_of, heap_of, IsKeptState}
 use Rattle.radix_map.specs.Map.{HasNone as NoArenaHas, IsFree}
@@ -104,7 +104,7 @@ module _ (old new : SetView) (region : RegionView) (one : EndsOne old new region
 
 -- a set without arenas has no regions
 pub no_regions : (v : SetView) → HasNone v → regions_of v.arenas ≡ []
-no_regions v none = flat_empty (λ n a. region_extent a.region ∷ []) 1 v.arenas (λ k lt. ap (part (λ n a. region_extent a.region ∷ []) (1 + k)) (none k))
+no_regions v none = regions_flat 1 v.arenas ∙ flat_empty (λ n a. region_extent a.region ∷ []) 1 v.arenas (λ k lt. ap (part (λ n a. region_extent a.region ∷ []) (1 + k)) (none k))
 
 -- ---- what a heap owns
 

@@ -19,14 +19,14 @@ use Rattle.arena_set.specs.declared.pool_id.PoolId.{PoolId}
 use Rattle.arena_set.specs.Started.{Started}
 use Rattle.layout_model.specs.Geometry.{pool_offset, Site, slot_at, ArenaHas, PoolHas, PoolLine}
 use Rattle.arena_set.specs.Arena.{ArenaView, pool_loans, block_extent, piece_offset, after_mending}
-use Rattle.arena_set.specs.Set.{SetView, pools_of, regions_of, loans_of, usable_of, dry_of, IsSet}
+use Rattle.arena_set.specs.Set.{SetView, regions_of, loans_of, usable_of, dry_of, IsSet, region_in}
 use Rattle.arena_set.specs.Calls.{IsStarted, CanMend, Mends, GivesPool}
-use Rattle.arena_set.proofs.CallerLemmas.{inside, PieceOf, piece_of}
+use Rattle.arena_set.proofs.CallerLemmas.{PieceOf, piece_of}
 use Rattle.py_heap.specs.Heap.{AreHome, InPool}
-use Rattle.py_heap.specs.Kept.{ClassView, State, no_pools, spot, spots_of, lines_of, sites_of, tables_of, heap_of, region_in, class_at, full_in, SameSums, IsKeptState}
+use Rattle.py_heap.specs.Kept.{ClassView, State, no_pools, spot, spots_of, lines_of, sites_of, tables_of, heap_of, class_at, full_in, SameSums, IsKeptState}
 use Rattle.py_heap.specs.Frees.{IsInPool, TakesBack}
 use Rattle.py_heap.proofs.Search.{get_or_any}
-use Rattle.py_heap.proofs.Arenas.{region_at, line_at, line_there, started_there, started_once, arena_at, loan_there, site_there, pool_ground, sites_cover, sites_same}
+use Rattle.py_heap.proofs.Arenas.{region_at, line_at, line_there, started_there, started_once, arena_at, loan_there, site_there, sites_cover, sites_same}
 use Rattle.py_heap.proofs.Lending.{pool_inside, pool_sound, full_tells, not_full_in, lists_at}
 
 -- ---- lists with the same sums

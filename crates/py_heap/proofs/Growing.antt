@@ -1,5 +1,5 @@
 -- Room is made, and an arena comes.
-use Rattle.std.proofs.Common.{◌≡◌, ℕ, zero, suc, ◌+◌, ◌-◌, ◌%◌, ◌<◌, ◌≤◌, ◌^◌, max, ◌&&◌, true, inl, inr, List, [], ◌∷◌, ◌++◌, map, length, get_or, set, Some, None, refl, sym, ap, subst, ◌∙◌, arith}
+use Rattle.std.proofs.Common.{◌≡◌, ℕ, zero, suc, ◌+◌, ◌-◌, ◌<◌, ◌≤◌, ◌^◌, max, ◌&&◌, true, inl, inr, List, [], ◌∷◌, ◌++◌, map, length, get_or, set, Some, None, refl, sym, ap, subst, ◌∙◌, arith}
 use Rattle.std.proofs.lemmas.Bool.Decides.{eqb_tells}
 use Rattle.std.proofs.lemmas.List.{get_or-map, length-map, length-append, get_or-set_same, get_or-set_other, map-set}
 use Rattle.mem_base.specs.declared.history.Grant.TheVariants.{NotAsked, Granted}
@@ -17,12 +17,12 @@ use Rattle.heap_model.specs.Kept.{IsKept, AreOrderly}
 use Rattle.std.specs.List.{range_with_len}
 use Rattle.links.specs.Nodes.{times}
 use Rattle.arena_set.specs.Flat.{AllSome}
-use Rattle.arena_set.specs.Set.{SetView, lines_of as lines_of_arenas, pools_of, regions_of, loans_of, usable_of, dry_entry, usable_times, IsSet, AreNamed}
+use Rattle.arena_set.specs.Set.{SetView, lines_of as lines_of_arenas, pools_of, regions_of, loans_of, usable_of, dry_entry, usable_times, IsSet, AreNamed, region_in}
 use Rattle.layout_model.specs.Geometry.{total_at, Site}
 use Rattle.arena_set.specs.Arena.{IsArena, new_arena as first_arena}
 use Rattle.arena_set.specs.Rule.{CameAlone}
 use Rattle.py_heap.specs.Heap.{BeginsIfThere, Serves}
-use Rattle.py_heap.specs.Kept.{ClassView, State, no_pools, spots_of, lines_of, sites_of, tables_of, heap_of, region_in, class_at, full_in, IsKeptState}
+use Rattle.py_heap.specs.Kept.{ClassView, State, no_pools, spots_of, lines_of, sites_of, tables_of, heap_of, class_at, full_in, IsKeptState}
 use Rattle.py_heap.specs.Steps.{OnlyRoom, Comes}
 use Rattle.py_heap.proofs.Arenas.{sites_more}
 use Rattle.py_heap.proofs.Lending.{lists_at}
@@ -51,7 +51,7 @@ module _ (old new : State) (r : OnlyRoom old new) where
   }
 
   pub room_heap : heap_of new ≡ heap_of old
-  room_heap i = record { layout = layout_of (same_tables i); places = places_of (same_tables i); loans = loans_of (r.arenas i); regions = regions_of (r.arenas i); arenas = map region_in (r.arenas i) }
+  room_heap i = record { layout = layout_of (same_tables i); places = places_of (same_tables i); loans = loans_of (r.arenas i); arenas = map region_in (r.arenas i) }
 
   pub room_kept : IsKeptState old → IsKeptState new
   room_kept k = record {

@@ -1,29 +1,26 @@
 -- How many blocks of a heap lie in each of its pools, and how long they are.
-use Rattle.std.proofs.Common.{◌≡◌, ◌≢◌, ℕ, zero, suc, ◌+◌, ◌-◌, ◌*◌, ◌%◌, ◌<◌, ◌≤◌, ◌⊎◌, ◌↔◌, Bool, IsTrue, inl, inr, cond, eqb, List, [], ◌∷◌, map, length, get_or, Option, Some, None, refl, sym, ap, subst, ◌∙◌, arith}
+use Rattle.std.proofs.Common.{◌≡◌, ◌≢◌, ℕ, suc, ◌+◌, ◌-◌, ◌*◌, ◌%◌, ◌<◌, ◌≤◌, ◌⊎◌, ◌↔◌, Bool, IsTrue, inl, inr, cond, eqb, List, [], ◌∷◌, map, length, get_or, Option, Some, None, refl, sym, ap, subst, ◌∙◌, arith}
 use Rattle.std.proofs.lemmas.Bool.Decides.{eqb_tells, leb_tells}
 use Rattle.std.proofs.lemmas.List.{get_or-map}
 use Rattle.raw_region.specs.declared.maker.Maker.{Maker}
-use Rattle.raw_region.specs.Region.{RegionView}
 use Rattle.extents.specs.Sums.{tally, Has}
 use Rattle.extents.specs.Extent.{Extent, region_extent}
 use Rattle.extents.proofs.CallerLemmas.{tally-append, tally-map, tally_has, tally_zero, tally_inserted, removed_has, has_kept, has-map}
 use Rattle.layout_model.specs.Layout.{Used}
 use Rattle.layout_model.specs.Sizes.{size_of_class}
 use Rattle.layout_model.specs.Geometry.{IsArenaRegion, PoolLine, pool_offset}
-use Rattle.layout_model.specs.Place.{HasPool}
 use Rattle.layout_model.specs.Pool.{blocks_of, live_of, size_of, IsPool}
 use Rattle.layout_model.specs.Plain.{StandsFor}
 use Rattle.pool_core.proofs.CallerLemmas.{block_inside, gave}
-use Rattle.heap_model.specs.View.{used_pool}
 use Rattle.heap_model.specs.Kept.{has_number}
-use Rattle.heap_model.proofs.CallerLemmas.{LineOf, line_of_pool, class_has, place_there, number_self, pools_do_not_meet}
+use Rattle.heap_model.proofs.CallerLemmas.{line_of_pool, class_has, place_there, number_self, pools_do_not_meet}
 use Rattle.arena_set.specs.Started.{Started, plain_of}
 use Rattle.arena_set.specs.Flat.{AllSome, flat}
 use Rattle.arena_set.specs.Arena.{ArenaView, block_extent, pool_loans, arena_loans, IsArena, IsSound}
-use Rattle.arena_set.specs.Set.{SetView, pool_line, pools_of, loans_of, regions_of, IsSet}
+use Rattle.arena_set.specs.Set.{SetView, pool_line, loans_of, IsSet, region_in}
 use Rattle.arena_set.proofs.CallerLemmas.{inside, all_at}
-use Rattle.py_heap.specs.Heap.{InPool, PoolInRegion, PoolHolds, StaysInPool, PoolsHold, ArenasAreRegions, LoansHaveSizes, begins_in, held_extents}
-use Rattle.py_heap.specs.Kept.{State, lines_of, sites_of, tables_of, heap_of, region_in, IsKeptState}
+use Rattle.py_heap.specs.Heap.{PoolInRegion, StaysInPool, PoolsHold, ArenasAreRegions, LoansHaveSizes, begins_in}
+use Rattle.py_heap.specs.Kept.{State, lines_of, sites_of, tables_of, heap_of, IsKeptState}
 use Rattle.py_heap.proofs.Arenas.{flat_has, region_at, line_at, line_there, started_there, arena_at, pool_ground}
 use Rattle.py_heap.proofs.Lending.{pool_inside}
 use Rattle.py_heap.proofs.Freeing.{block_at, standing}
@@ -193,12 +190,6 @@ module _ (s : State) (k : IsKeptState s) where
         let is_it : a.region ≡ r = cc in
         let g = (all_at IsArena s.set.arenas n a k.sound_set.arenas e).region in
         subst IsArenaRegion is_it g
-
--- the regions, from the arenas
-pub held_are : (n : ℕ) (arenas : List (Option ArenaView)) → flat (λ n a. region_extent a.region ∷ []) n arenas ≡ held_extents (map region_in arenas)
-held_are n [] = refl
-held_are n (None ∷ arenas) = held_are (n + 1) arenas
-held_are n (Some a ∷ arenas) = ap (λ l. region_extent a.region ∷ l) (held_are (n + 1) arenas)
 
 -- a block of a pool is as long as the size of the pool's class
 pub stays_in_pool : (s : State) (k : IsKeptState s) (e : Extent) (n : ℕ) (stays : Bool) → (IsTrue stays ↔ ((n ≤ e.len) × (3 * e.len < 4 * n))) → Has e (heap_of s).loans → StaysInPool e n (heap_of s) stays

@@ -1,7 +1,7 @@
 -- A block of the first pool of a class.
 use Rattle.std.proofs.Common.{◌≡◌, ◌≢◌, ℕ, ◌+◌, ◌-◌, ◌%◌, ◌^◌, ◌<◌, ◌↔◌, ◌⊎◌, IsTrue, Bool, true, false, inl, inr, List, [], ◌∷◌, map, length, get_or, set, Some, refl, sym, ap, subst, ◌∙◌, arith}
 use Rattle.std.proofs.lemmas.Bool.Decides.{eqb_tells}
-use Rattle.std.proofs.lemmas.List.{get_or-map, map-set, length-map, length-set, map-append, get_or-set_same, get_or-set_other}
+use Rattle.std.proofs.lemmas.List.{get_or-map, map-set, length-map, length-set, get_or-set_same, get_or-set_other}
 use Rattle.mem_base.specs.declared.history.Grant.TheVariants.{NotAsked}
 use Rattle.raw_region.specs.Region.{PieceView}
 use Rattle.extents.specs.Sums.{tally, Has, Inserted, Replaced}
@@ -18,7 +18,7 @@ use Rattle.heap_model.proofs.CallerLemmas.{first_has_room, one_more_is_placed, l
 use Rattle.arena_set.specs.declared.pool_id.PoolId.{PoolId}
 use Rattle.arena_set.specs.Started.{Started}
 use Rattle.arena_set.specs.Arena.{ArenaView, IsSound}
-use Rattle.arena_set.specs.Set.{SetView, pools_of, regions_of, loans_of, usable_of, dry_of, IsSet}
+use Rattle.arena_set.specs.Set.{SetView, regions_of, loans_of, usable_of, dry_of, IsSet}
 use Rattle.arena_set.specs.Calls.{IsStarted, CanLend, Lends}
 use Rattle.arena_set.proofs.CallerLemmas.{all_at, inside}
 use Rattle.py_heap.specs.Heap.{PoolInRegion, InPool, Serves}

@@ -6,7 +6,7 @@ use Rattle.raw_region.specs.Cells.{AllHome}
 use Rattle.raw_region.specs.Region.{RegionView, PieceView}
 use Rattle.extents.specs.Sums.{tally, Has, Removed}
 use Rattle.extents.specs.Extent.{Extent, region_extent, piece_extent, AreApart}
-use Rattle.extents.proofs.CallerLemmas.{tally_has, tally_inserted, length_inserted, inserted-map, has_new, has_right}
+use Rattle.extents.proofs.CallerLemmas.{tally_has, tally_inserted, length_inserted, has_new, has_right}
 use Rattle.layout_model.specs.Sizes.{capacity}
 use Rattle.layout_model.specs.Unplace.{find_arena, without_arena, put_arena, is_last}
 use Rattle.layout_model.proofs.CallerLemmas.{many}

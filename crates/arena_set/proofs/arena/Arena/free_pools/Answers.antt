@@ -1,4 +1,4 @@
-use Rattle.std.proofs.Common.{◌≡◌, length, sym, ap, ◌∙◌}
+use Rattle.std.proofs.Common.{length, sym, ap, ◌∙◌}
 use Rattle.arena_set.specs.Arena.{ArenaView}
 use Rattle.arena_set.proofs.FreeChains.{counted}
 use Rattle.arena_set.proofs.arena.Arena.free_pools.Goals as goal

@@ -1,5 +1,5 @@
-use Rattle.std.proofs.Common.{◌≡◌, ◌<◌, IsSome, Some, None, get_or, length, refl, sym, subst, ap, ◌∙◌, arith}
-use Rattle.layout_model.specs.Geometry.{first_pool, pool_offset}
+use Rattle.std.proofs.Common.{◌≡◌, ◌<◌, IsSome, Some, None, get_or, length, refl, sym, subst, arith}
+use Rattle.layout_model.specs.Geometry.{first_pool}
 use Rattle.arena_set.specs.FreeChain.{free_list}
 use Rattle.arena_set.specs.Arena.{ArenaView, arena_view}
 use Rattle.arena_set.proofs.Flats.{inside, read}

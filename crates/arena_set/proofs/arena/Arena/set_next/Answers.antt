@@ -1,4 +1,4 @@
-use Rattle.std.proofs.Common.{IsSome, Some, None, get_or, refl, inl, inr, sym, subst, ap, ◌∙◌, ◌≡◌}
+use Rattle.std.proofs.Common.{IsSome, Some, None, get_or, refl, inl, sym, subst, ap, ◌∙◌, ◌≡◌}
 use Rattle.layout_model.specs.Geometry.{pool_offset}
 use Rattle.arena_set.specs.Started.{Started, plain_of}
 use Rattle.arena_set.specs.FreeChain.{free_list}

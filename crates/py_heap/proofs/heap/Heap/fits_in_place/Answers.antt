@@ -1,4 +1,4 @@
-use Rattle.std.proofs.Common.{◌↔◌, ◌*◌, ◌<◌, ◌≤◌, IsTrue, subst, arith}
+use Rattle.std.proofs.Common.{◌↔◌, ◌*◌, ◌<◌, ◌≤◌, IsTrue, subst}
 use Rattle.extents.specs.Sums.{Has}
 use Rattle.extents.specs.Extent.{piece_extent}
 use Rattle.py_heap.specs.Heap.{StaysInPool}
