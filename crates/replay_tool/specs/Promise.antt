@@ -8,7 +8,8 @@ use Rattle.trace_model.specs.Reading.{trace_at}
 use Rattle.trace_model.specs.Spelling.{spelling, IsWellFormed}
 use Rattle.replay_tool.specs.declared.refusal.Refusal.TheVariants as refusal
 use Rattle.replay_tool.specs.declared.status.Status.{Status}
-use Rattle.replay_tool.specs.declared.status.Status.TheVariants.{Done, Faulted, Usage, FaultyLine, ReadFault, WriteFault, OutOfMemory, TooLong}
+use Rattle.replay_tool.specs.declared.status.Status.TheVariants.{Done, Faulted, Usage, FaultyLine, ReadFault}
+use Rattle.replay_tool.specs.declared.status.Status.TheVariants.{WriteFault, OutOfMemory, TooLong}
 use Rattle.replay_tool.specs.Runs.{Run, Ended, WasReplayed, WasTold, WasUntold, WasCutOff, WasBrokenOff, NeverBegan}
 use Rattle.replay_tool.specs.Served.{NothingOut}
 use Rattle.replay_tool.specs.Streams.{Broke}
@@ -58,7 +59,9 @@ pub record Promise (r : Run) : Type 0 where
   -- and so is one that has more
   pub too_many : (bytes : List ℕ) → Gets r bytes → MAX_INPUT < length bytes → EndedOrYielded r TooLong
   -- an input with a faulty line is refused
-  pub faulty : (bytes : List ℕ) (line : ℕ) (cause : TraceCause) → Gets r bytes → length bytes ≤ MAX_INPUT → trace_at bytes ≡ Err (line, cause) → EndedOrYielded r FaultyLine
+  pub faulty : (bytes : List ℕ) (line : ℕ) (cause : TraceCause) → Gets r bytes → length bytes ≤ MAX_INPUT
+      → trace_at bytes ≡ Err (line, cause) → EndedOrYielded r FaultyLine
   -- a trace is replayed to its end, unless memory runs out
-  pub complete : (trace : PlainTrace) → Gets r (spelling trace) → IsWellFormed trace → length (spelling trace) ≤ MAX_INPUT → CanWrite r
+  pub complete : (trace : PlainTrace) → Gets r (spelling trace) → IsWellFormed trace
+      → length (spelling trace) ≤ MAX_INPUT → CanWrite r
       → Ended r Done ⊎ Ended r Faulted ⊎ Ended r OutOfMemory

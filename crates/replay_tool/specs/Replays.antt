@@ -13,7 +13,8 @@ use Rattle.machine_core.specs.View.{MachineView, Requests, tracks_of, state_of}
 use Rattle.replay_tool.specs.declared.status.Halt.{Halt}
 use Rattle.replay_tool.specs.declared.status.Halt.TheVariants as halt
 use Rattle.replay_tool.specs.declared.status.Status.{Status}
-use Rattle.replay_tool.specs.declared.status.Status.TheVariants.{Done, Faulted, Usage, FaultyLine, ReadFault, WriteFault, OutOfMemory, TooLong}
+use Rattle.replay_tool.specs.declared.status.Status.TheVariants.{Done, Faulted, Usage, FaultyLine, ReadFault}
+use Rattle.replay_tool.specs.declared.status.Status.TheVariants.{WriteFault, OutOfMemory, TooLong}
 use Rattle.replay_tool.specs.Served.{Served, ServedNearly, Sources}
 use Rattle.replay_tool.specs.Streams.{Stream, Wrote, BrokeWithin}
 
@@ -36,8 +37,10 @@ pub record OneMore (t : ℕ) (old new : Moment) : Type 0 where
   pub next : IsNext (tracks_of old.machine) (state_of old.machine) entry
   pub same : new.machine.trace ≡ old.machine.trace
   pub grows : new.machine.entries ≡ old.machine.entries ++ entry ∷ []
-  pub arenas : Requests sides.Arena old.machine.trace old.machine.entries entry old.machine.arenas new.machine.arenas old.sources.arenas new.sources.arenas
-  pub raws : Requests sides.Raw old.machine.trace old.machine.entries entry old.machine.raws new.machine.raws old.sources.raw new.sources.raw
+  pub arenas : Requests sides.Arena old.machine.trace old.machine.entries entry
+      old.machine.arenas new.machine.arenas old.sources.arenas new.sources.arenas
+  pub raws : Requests sides.Raw old.machine.trace old.machine.entries entry
+      old.machine.raws new.machine.raws old.sources.raw new.sources.raw
 
 -- memory ran out in the event, which was not done, and the raw source refused nothing
 pub record NoneMore (old new : Moment) : Type 0 where

@@ -35,8 +35,8 @@ pub record NothingOut (s : Sources) : Type 0 where
   pub raw : s.raw.out ≡ []
 
 module _ {S : Type 0} where
-  -- the source of a side answered just the requests of a history: its counts rose by theirs, its plan grew by what the operations list,
-  -- and each request that the plan has was refused
+  -- the source of a side answered just the requests of a history: its counts rose by theirs, its plan grew by
+  -- what the operations list, and each request that the plan has was refused
   pub record ServedOn (side : Side) (tracks : List PlainTrack) (es : List Entry) (before now : SourceView S) : Type 0 where
     pub asked : now.asked ≡ before.asked + asked_in side es
     pub refused : now.refused ≡ before.refused + refused_in side es
@@ -45,7 +45,8 @@ module _ {S : Type 0} where
     pub window : now.window ≡ before.window
     pub shape : now.shape ≡ before.shape
 
-  -- the same, but that the source may have been asked once more, for an event that found no memory: it refused that request where its plan had it
+  -- the same, but that the source may have been asked once more, for an event that found no memory: it refused
+  -- that request where its plan had it
   pub record NearlyOn (side : Side) (tracks : List PlainTrack) (es : List Entry) (before now : SourceView S) : Type 0 where
     pub asks : ℕ
     pub refusals : ℕ
@@ -63,8 +64,8 @@ pub record Served (tracks : List PlainTrack) (es : List Entry) (before now : Sou
   pub arenas : ServedOn sides.Arena tracks es before.arenas now.arenas
   pub raw : ServedOn sides.Raw tracks es before.raw now.raw
 
--- The same, but for an event that found no memory. The raw source refused it nothing, and was asked where the arena source refused:
--- a refusal is never told as want of memory.
+-- The same, but for an event that found no memory. The raw source refused it nothing, and was asked where the
+-- arena source refused: a refusal is never told as want of memory.
 pub record ServedNearly (tracks : List PlainTrack) (es : List Entry) (before now : Sources) : Type 0 where
   pub arenas : NearlyOn sides.Arena tracks es before.arenas now.arenas
   pub raw : NearlyOn sides.Raw tracks es before.raw now.raw

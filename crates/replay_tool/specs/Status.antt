@@ -3,7 +3,8 @@ use Rattle.std.specs.Prelude.{◌≡◌, ℕ, List, [], Result, Ok, Err}
 use Rattle.replay_tool.specs.declared.status.Halt.{Halt}
 use Rattle.replay_tool.specs.declared.status.Halt.TheVariants as halt
 use Rattle.replay_tool.specs.declared.status.Status.{Status}
-use Rattle.replay_tool.specs.declared.status.Status.TheVariants.{Done, Faulted, Usage, FaultyLine, ReadFault, WriteFault, OutOfMemory, TooLong}
+use Rattle.replay_tool.specs.declared.status.Status.TheVariants.{Done, Faulted, Usage, FaultyLine, ReadFault}
+use Rattle.replay_tool.specs.declared.status.Status.TheVariants.{WriteFault, OutOfMemory, TooLong}
 use Rattle.replay_tool.specs.Streams.{Stream, Wrote, BrokeWithin}
 
 -- the number that a program ends with

@@ -1,8 +1,9 @@
 //! The events of a replay, one after another, and what is printed of each.
 //!
-//! Before each event the machine is asked which track the schedule takes. It does the event of that track, its text is put together in one buffer that is used again, and the text
-//! is written before the next event is done. So whatever ends the replay, what was written is the
-//! texts of the first events, in their order, and at most a part of one text behind them.
+//! Before each event the machine is asked which track the schedule takes. It does the event of that
+//! track, its text is put together in one buffer that is used again, and the text is written before the
+//! next event is done. So whatever ends the replay, what was written is the texts of the first events, in
+//! their order, and at most a part of one text behind them.
 
 ghost use Rattle.std.specs.Prelude.{◌≡◌, ◌<◌, ◌^◌, [], true, false, IfSome, IfNone};
 ghost use Rattle.event_model.specs.Events.{is_ready};
@@ -82,7 +83,8 @@ pub fn status_of(machine: &Machine) -> Status
 // Writes the summary, for which the buffer is used again.
 fn write_summary<O: Sink>(machine: &Machine, text: &mut Vec<u8>, out: &mut O) -> Result<(), Halt>
     ensures { Tells (summary_text (tracks_of machine.now) machine.now.entries)
-        (stream (O.written out.old) (O.faults out.old)) (stream (O.written out.new) (O.faults out.new)) result }
+        (stream (O.written out.old) (O.faults out.old))
+        (stream (O.written out.new) (O.faults out.new)) result }
 {
     let totals = machine.totals();
     let status = status_of(machine).number();

@@ -1,12 +1,15 @@
 //! The text of an event: its line, and below it the shape of a heap or what a fault found.
-ghost use Rattle.std.specs.Prelude.{◌≡◌, ◌++◌, List, IfOk, OnOk, IsSome, Some};
+ghost use Rattle.std.specs.Prelude.{◌≡◌, ◌++◌, List, IfOk, OnOk, OnErr, IsSome, Some};
 ghost use Rattle.std.specs.List.{flat_map};
 ghost use Rattle.mem_base.specs.Name.{Name};
 ghost use Rattle.trace_model.specs.Plain.{action_of, text_at};
 ghost use Rattle.trace_model.specs.Known.{IsKnown, IsKnownOp, IsKnownTrace, op_at};
 ghost use Rattle.event_model.specs.Replies.{plain_reply};
-ghost use Rattle.report_model.specs.Report.{reply_word, event_line, event_lines, fault_line, block_line, head_line, tail_line, shape_word, arena_line, pool_word, pools_word, class_line, shape_lines, fault_lines, more_lines, block_name};
-ghost use Rattle.report_text.specs.Texts.{step_text};
+ghost use Rattle.report_model.specs.Report.{reply_word, event_line, event_lines, fault_line, block_line};
+ghost use Rattle.report_model.specs.Report.{head_line, tail_line, shape_word, arena_line, pool_word};
+ghost use Rattle.report_model.specs.Report.{pools_word, class_line, shape_lines, fault_lines, more_lines};
+ghost use Rattle.report_model.specs.Report.{block_name};
+ghost use Rattle.report_text.specs.Texts.{step_text, StaysInFront};
 
 use crate::words::{push_hex, push_name, push_number, push_op};
 use mem_base::{
@@ -21,7 +24,8 @@ use trace_model::name_of;
 // How many blocks lie in pools, and how many in raw regions.
 #[tactic(auto, unfolding(report_model::specs::Report::shape_word))]
 fn push_shape(text: &mut Vec<u8>, view: &View) -> Result<(), AllocError>
-    ensures { OnOk result (text.new.items ≡ text.old.items ++ shape_word view.now) }
+    ensures ok { OnOk result (text.new.items ≡ text.old.items ++ shape_word view.now) }
+    ensures err { OnErr result (StaysInFront text.old.items text.new.items) }
 {
     text.extend_from_slice(b"pool ")?;
     push_number(text, view.pooled)?;
@@ -30,7 +34,9 @@ fn push_shape(text: &mut Vec<u8>, view: &View) -> Result<(), AllocError>
 }
 
 fn push_reply(text: &mut Vec<u8>, reply: &Reply) -> Result<(), AllocError>
-    ensures { (texts : List Name) → OnOk result (text.new.items ≡ text.old.items ++ reply_word (plain_reply texts reply.now)) }
+    ensures ok { (texts : List Name)
+        → OnOk result (text.new.items ≡ text.old.items ++ reply_word (plain_reply texts reply.now)) }
+    ensures err { OnErr result (StaysInFront text.old.items text.new.items) }
 {
     match reply {
         Reply::Ok => text.extend_from_slice(b"ok"),
@@ -67,8 +73,10 @@ fn push_event_line(
 ) -> Result<(), AllocError>
     requires track { IsKnown texts.now track }
     requires op { IsKnownOp texts.now op.now }
-    ensures { OnOk result (text.new.items ≡ text.old.items
-        ++ event_line number (text_at texts.now track) (action_of texts.now op.now) (plain_reply texts.now reply.now)) }
+    ensures ok { OnOk result (text.new.items ≡ text.old.items
+        ++ event_line number (text_at texts.now track) (action_of texts.now op.now)
+        (plain_reply texts.now reply.now)) }
+    ensures err { OnErr result (StaysInFront text.old.items text.new.items) }
 {
     push_number(text, number)?;
     push_name(text, texts, track)?;
@@ -84,7 +92,8 @@ fn push_event_line(
 
 #[tactic(auto, unfolding(report_model::specs::Report::arena_line))]
 fn push_arena_line(text: &mut Vec<u8>, arena: ArenaLine) -> Result<(), AllocError>
-    ensures { OnOk result (text.new.items ≡ text.old.items ++ arena_line arena) }
+    ensures ok { OnOk result (text.new.items ≡ text.old.items ++ arena_line arena) }
+    ensures err { OnErr result (StaysInFront text.old.items text.new.items) }
 {
     text.extend_from_slice(b"  arena ")?;
     push_number(text, u64::from(arena.id))?;
@@ -97,7 +106,8 @@ fn push_arena_line(text: &mut Vec<u8>, arena: ArenaLine) -> Result<(), AllocErro
 }
 
 fn push_arena_lines(text: &mut Vec<u8>, arenas: &[ArenaLine]) -> Result<(), AllocError>
-    ensures { OnOk result (text.new.items ≡ text.old.items ++ flat_map arena_line arenas.now) }
+    ensures ok { OnOk result (text.new.items ≡ text.old.items ++ flat_map arena_line arenas.now) }
+    ensures err { OnErr result (StaysInFront text.old.items text.new.items) }
 {
     for arena in arenas {
         push_arena_line(text, *arena)?;
@@ -107,7 +117,8 @@ fn push_arena_lines(text: &mut Vec<u8>, arenas: &[ArenaLine]) -> Result<(), Allo
 
 #[tactic(auto, unfolding(report_model::specs::Report::pool_word))]
 fn push_pool(text: &mut Vec<u8>, pool: UsedPool) -> Result<(), AllocError>
-    ensures { OnOk result (text.new.items ≡ text.old.items ++ pool_word pool) }
+    ensures ok { OnOk result (text.new.items ≡ text.old.items ++ pool_word pool) }
+    ensures err { OnErr result (StaysInFront text.old.items text.new.items) }
 {
     push_number(text, u64::from(pool.arena))?;
     text.push(b':')?;
@@ -116,7 +127,8 @@ fn push_pool(text: &mut Vec<u8>, pool: UsedPool) -> Result<(), AllocError>
 
 // The partly used pools of a class, with commas between.
 fn push_pools(text: &mut Vec<u8>, pools: &[UsedPool]) -> Result<(), AllocError>
-    ensures { OnOk result (text.new.items ≡ text.old.items ++ pools_word pools.now) }
+    ensures ok { OnOk result (text.new.items ≡ text.old.items ++ pools_word pools.now) }
+    ensures err { OnErr result (StaysInFront text.old.items text.new.items) }
 {
     let Some((first, rest)) = pools.split_first() else {
         return text.extend_from_slice(b"-");
@@ -131,7 +143,8 @@ fn push_pools(text: &mut Vec<u8>, pools: &[UsedPool]) -> Result<(), AllocError>
 
 #[tactic(auto, unfolding(report_model::specs::Report::class_line))]
 fn push_class_line(text: &mut Vec<u8>, class: &ClassLine) -> Result<(), AllocError>
-    ensures { OnOk result (text.new.items ≡ text.old.items ++ class_line class.now) }
+    ensures ok { OnOk result (text.new.items ≡ text.old.items ++ class_line class.now) }
+    ensures err { OnErr result (StaysInFront text.old.items text.new.items) }
 {
     text.extend_from_slice(b"  class ")?;
     push_number(text, u64::from(class.size))?;
@@ -144,7 +157,8 @@ fn push_class_line(text: &mut Vec<u8>, class: &ClassLine) -> Result<(), AllocErr
 }
 
 fn push_class_lines(text: &mut Vec<u8>, classes: &[ClassLine]) -> Result<(), AllocError>
-    ensures { OnOk result (text.new.items ≡ text.old.items ++ flat_map class_line classes.now) }
+    ensures ok { OnOk result (text.new.items ≡ text.old.items ++ flat_map class_line classes.now) }
+    ensures err { OnErr result (StaysInFront text.old.items text.new.items) }
 {
     for class in classes {
         push_class_line(text, class)?;
@@ -153,7 +167,8 @@ fn push_class_lines(text: &mut Vec<u8>, classes: &[ClassLine]) -> Result<(), All
 }
 
 fn push_shape_lines(text: &mut Vec<u8>, view: &View) -> Result<(), AllocError>
-    ensures { OnOk result (text.new.items ≡ text.old.items ++ shape_lines view.now) }
+    ensures ok { OnOk result (text.new.items ≡ text.old.items ++ shape_lines view.now) }
+    ensures err { OnErr result (StaysInFront text.old.items text.new.items) }
 {
     push_arena_lines(text, view.arenas.as_slice())?;
     push_class_lines(text, view.classes.as_slice())
@@ -163,7 +178,8 @@ fn push_shape_lines(text: &mut Vec<u8>, view: &View) -> Result<(), AllocError>
 
 #[tactic(auto, unfolding(report_model::specs::Report::fault_line))]
 fn push_fault_line(text: &mut Vec<u8>, fault: Fault) -> Result<(), AllocError>
-    ensures { OnOk result (text.new.items ≡ text.old.items ++ fault_line fault) }
+    ensures ok { OnOk result (text.new.items ≡ text.old.items ++ fault_line fault) }
+    ensures err { OnErr result (StaysInFront text.old.items text.new.items) }
 {
     match fault {
         Fault::Unlocked => text.extend_from_slice(b"  unlocked\n"),
@@ -192,7 +208,8 @@ fn push_fault_line(text: &mut Vec<u8>, fault: Fault) -> Result<(), AllocError>
 
 #[tactic(auto, unfolding(report_model::specs::Report::block_line))]
 fn push_block_line(text: &mut Vec<u8>, name: &[u8], size: u64) -> Result<(), AllocError>
-    ensures { OnOk result (text.new.items ≡ text.old.items ++ block_line name.now size) }
+    ensures ok { OnOk result (text.new.items ≡ text.old.items ++ block_line name.now size) }
+    ensures err { OnErr result (StaysInFront text.old.items text.new.items) }
 {
     text.extend_from_slice(b"  block ")?;
     text.extend_from_slice(name)?;
@@ -204,7 +221,8 @@ fn push_block_line(text: &mut Vec<u8>, name: &[u8], size: u64) -> Result<(), All
 
 #[tactic(auto, unfolding(report_model::specs::Report::head_line))]
 fn push_head_line(text: &mut Vec<u8>, head: &[u8]) -> Result<(), AllocError>
-    ensures { OnOk result (text.new.items ≡ text.old.items ++ head_line head.now) }
+    ensures ok { OnOk result (text.new.items ≡ text.old.items ++ head_line head.now) }
+    ensures err { OnErr result (StaysInFront text.old.items text.new.items) }
 {
     text.extend_from_slice(b"  head ")?;
     push_hex(text, head)?;
@@ -214,7 +232,8 @@ fn push_head_line(text: &mut Vec<u8>, head: &[u8]) -> Result<(), AllocError>
 
 #[tactic(auto, unfolding(report_model::specs::Report::tail_line))]
 fn push_tail_line(text: &mut Vec<u8>, tail: &[u8]) -> Result<(), AllocError>
-    ensures { OnOk result (text.new.items ≡ text.old.items ++ tail_line tail.now) }
+    ensures ok { OnOk result (text.new.items ≡ text.old.items ++ tail_line tail.now) }
+    ensures err { OnErr result (StaysInFront text.old.items text.new.items) }
 {
     text.extend_from_slice(b"  tail ")?;
     push_hex(text, tail)?;
@@ -229,7 +248,9 @@ fn push_block(
     name: &[u8],
     block: &BlockReport,
 ) -> Result<(), AllocError>
-    ensures { OnOk result (text.new.items ≡ text.old.items ++ fault_lines name.now fault (Some block.now)) }
+    ensures ok { OnOk result (text.new.items
+        ≡ text.old.items ++ fault_lines name.now fault (Some block.now)) }
+    ensures err { OnErr result (StaysInFront text.old.items text.new.items) }
 {
     push_fault_line(text, fault)?;
     push_block_line(text, name, block.size)?;
@@ -252,7 +273,9 @@ fn name_of_block<'a>(texts: &'a Texts, op: &Op) -> &'a [u8]
 
 // The lines below that of the event.
 fn push_more_lines(text: &mut Vec<u8>, name: &[u8], reply: &Reply) -> Result<(), AllocError>
-    ensures { (texts : List Name) → OnOk result (text.new.items ≡ text.old.items ++ more_lines name.now (plain_reply texts reply.now)) }
+    ensures ok { (texts : List Name)
+        → OnOk result (text.new.items ≡ text.old.items ++ more_lines name.now (plain_reply texts reply.now)) }
+    ensures err { OnErr result (StaysInFront text.old.items text.new.items) }
 {
     match reply {
         Reply::Heap(view) => push_shape_lines(text, view),
@@ -289,16 +312,18 @@ fn push_event_lines(
 ) -> Result<(), AllocError>
     requires track { IsKnown texts.now track }
     requires op { IsKnownOp texts.now op.now }
-    ensures { OnOk result (text.new.items ≡ text.old.items
-        ++ event_lines number (text_at texts.now track) (action_of texts.now op.now) (plain_reply texts.now reply.now)) }
+    ensures ok { OnOk result (text.new.items ≡ text.old.items
+        ++ event_lines number (text_at texts.now track) (action_of texts.now op.now)
+        (plain_reply texts.now reply.now)) }
+    ensures err { OnErr result (StaysInFront text.old.items text.new.items) }
 {
     push_event_line(text, texts, number, track, op, reply)?;
     push_more_lines(text, name_of_block(texts, op), reply)
 }
 
 /// Adds the text of the event with that number, counted from 1, to the end of a text. The step's
-/// entry names an operation of this trace. The error is that there was no memory for it, and a part
-/// of the event's text may then stand at the end.
+/// entry names an operation of this trace. The error is that there was no memory for it: the text that
+/// stood there stands in front still, and more may stand behind it.
 pub fn push_event(
     text: &mut Vec<u8>,
     number: u64,
@@ -307,7 +332,8 @@ pub fn push_event(
 ) -> Result<(), AllocError>
     requires known { IsKnownTrace trace.now }
     requires op { IsSome (op_at trace.now.tracks step.now.entry.track step.now.entry.at) }
-    ensures { OnOk result (text.new.items ≡ text.old.items ++ step_text trace.now number step.now) }
+    ensures ok { OnOk result (text.new.items ≡ text.old.items ++ step_text trace.now number step.now) }
+    ensures err { OnErr result (StaysInFront text.old.items text.new.items) }
 {
     let Some(track) = trace.tracks.get(step.entry.track as usize) else {
         unreachable!()

@@ -1,9 +1,9 @@
 //! The summary of a run, a function for each of its lines.
-ghost use Rattle.std.specs.Prelude.{◌≡◌, ◌++◌, IfOk, OnOk};
+ghost use Rattle.std.specs.Prelude.{◌≡◌, ◌++◌, IfOk, OnOk, OnErr};
 ghost use Rattle.trace_model.specs.Plain.{plain};
 ghost use Rattle.trace_model.specs.Known.{IsKnownTrace};
 ghost use Rattle.report_model.specs.Report.{owner_word, events_line, lock_line, blocks_line, arenas_line, traced_line};
-ghost use Rattle.report_text.specs.Texts.{summary_of};
+ghost use Rattle.report_text.specs.Texts.{summary_of, StaysInFront};
 
 use crate::words::{push_number, push_wide};
 use mem_base::{Counts, List, Totals, Trace, TrackId};
@@ -11,7 +11,8 @@ use std::alloc::{AllocError, Global};
 
 #[tactic(auto, unfolding(report_model::specs::Report::events_line))]
 fn push_events_line(text: &mut Vec<u8>, events: u64, status: u8) -> Result<(), AllocError>
-    ensures { OnOk result (text.new.items ≡ text.old.items ++ events_line events status) }
+    ensures ok { OnOk result (text.new.items ≡ text.old.items ++ events_line events status) }
+    ensures err { OnErr result (StaysInFront text.old.items text.new.items) }
 {
     text.extend_from_slice(b"summary events ")?;
     push_number(text, events)?;
@@ -37,7 +38,8 @@ fn owner_name(trace: &Trace, owner: Option<TrackId>) -> &[u8]
 
 #[tactic(auto, unfolding(report_model::specs::Report::lock_line))]
 fn push_lock_line(text: &mut Vec<u8>, owner: &[u8]) -> Result<(), AllocError>
-    ensures { OnOk result (text.new.items ≡ text.old.items ++ lock_line owner.now) }
+    ensures ok { OnOk result (text.new.items ≡ text.old.items ++ lock_line owner.now) }
+    ensures err { OnErr result (StaysInFront text.old.items text.new.items) }
 {
     text.extend_from_slice(b"summary lock ")?;
     text.extend_from_slice(owner)?;
@@ -47,7 +49,8 @@ fn push_lock_line(text: &mut Vec<u8>, owner: &[u8]) -> Result<(), AllocError>
 
 #[tactic(auto, unfolding(report_model::specs::Report::blocks_line))]
 fn push_blocks_line(text: &mut Vec<u8>, blocks: u64, bytes: u128) -> Result<(), AllocError>
-    ensures { OnOk result (text.new.items ≡ text.old.items ++ blocks_line blocks bytes) }
+    ensures ok { OnOk result (text.new.items ≡ text.old.items ++ blocks_line blocks bytes) }
+    ensures err { OnErr result (StaysInFront text.old.items text.new.items) }
 {
     text.extend_from_slice(b"summary blocks ")?;
     push_number(text, blocks)?;
@@ -59,7 +62,9 @@ fn push_blocks_line(text: &mut Vec<u8>, blocks: u64, bytes: u128) -> Result<(), 
 
 #[tactic(auto, unfolding(report_model::specs::Report::arenas_line))]
 fn push_arenas_line(text: &mut Vec<u8>, counts: Counts) -> Result<(), AllocError>
-    ensures { OnOk result (text.new.items ≡ text.old.items ++ arenas_line counts.given counts.back counts.most) }
+    ensures ok { OnOk result (text.new.items
+        ≡ text.old.items ++ arenas_line counts.given counts.back counts.most) }
+    ensures err { OnErr result (StaysInFront text.old.items text.new.items) }
 {
     text.extend_from_slice(b"summary arenas given ")?;
     push_number(text, counts.given)?;
@@ -73,7 +78,8 @@ fn push_arenas_line(text: &mut Vec<u8>, counts: Counts) -> Result<(), AllocError
 
 #[tactic(auto, unfolding(report_model::specs::Report::traced_line))]
 fn push_traced_line(text: &mut Vec<u8>, traced: u128, peak: u128) -> Result<(), AllocError>
-    ensures { OnOk result (text.new.items ≡ text.old.items ++ traced_line traced peak) }
+    ensures ok { OnOk result (text.new.items ≡ text.old.items ++ traced_line traced peak) }
+    ensures err { OnErr result (StaysInFront text.old.items text.new.items) }
 {
     text.extend_from_slice(b"summary traced ")?;
     push_wide(text, traced)?;
@@ -84,8 +90,8 @@ fn push_traced_line(text: &mut Vec<u8>, traced: u128, peak: u128) -> Result<(), 
 }
 
 /// Adds the summary of these numbers, with the run's exit status, to the end of a text. The owner of
-/// the lock is named as in the trace. The error is that there was no memory for it, and a part of the
-/// summary may then stand at the end.
+/// the lock is named as in the trace. The error is that there was no memory for it: the text that
+/// stood there stands in front still, and more may stand behind it.
 pub fn push_summary(
     text: &mut Vec<u8>,
     totals: &Totals,
@@ -93,7 +99,8 @@ pub fn push_summary(
     status: u8,
 ) -> Result<(), AllocError>
     requires { IsKnownTrace trace.now }
-    ensures { OnOk result (text.new.items ≡ text.old.items ++ summary_of trace.now totals.now status) }
+    ensures ok { OnOk result (text.new.items ≡ text.old.items ++ summary_of trace.now totals.now status) }
+    ensures err { OnErr result (StaysInFront text.old.items text.new.items) }
 {
     push_events_line(text, totals.events, status)?;
     push_lock_line(text, owner_name(trace, totals.owner))?;

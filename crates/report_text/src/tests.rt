@@ -131,16 +131,18 @@ const SMALL_HEAP: &[u8] =
     b"3 t heap = pool 1 raw 0\n  arena 1 free 63 of 64\n  class 32 used 1:1 full 0\n";
 
 const LARGE_HEAP: &[u8] =
-    b"18446744073709551615 t heap = pool 2552 raw 3\n  arena 1 free 60 of 64\n  arena 4 free 62 of 63\n  class 16 used - full 1\n  class 32 used 1:509,4:2 full 2\n";
+    b"18446744073709551615 t heap = pool 2552 raw 3\n  arena 1 free 60 of 64\n  arena 4 free 62 of 63\n  \
+    class 16 used - full 1\n  class 32 used 1:509,4:2 full 2\n";
 
-const OVERRUN: &[u8] =
-    b"6 t free m x = fault\n  bad_tail 0\n  block x size 32\n  head 6dfdfdfdfdfdfdfd\n  tail 00fdfdfdfdfdfdfd\n";
+const OVERRUN: &[u8] = b"6 t free m x = fault\n  bad_tail 0\n  block x size 32\n  \
+    head 6dfdfdfdfdfdfdfd\n  tail 00fdfdfdfdfdfdfd\n";
 
-const SUMMARY: &[u8] =
-    b"summary events 5 status 0\nsummary lock free\nsummary blocks 2 bytes 10\nsummary arenas given 1 back 0 most 1\nsummary traced 0 peak 0\n";
+const SUMMARY: &[u8] = b"summary events 5 status 0\nsummary lock free\nsummary blocks 2 bytes 10\n\
+    summary arenas given 1 back 0 most 1\nsummary traced 0 peak 0\n";
 
 const SUMMARY_OF_OWNER: &[u8] =
-    b"summary events 5 status 1\nsummary lock t\nsummary blocks 2 bytes 10\nsummary arenas given 1 back 0 most 1\nsummary traced 0 peak 0\n";
+    b"summary events 5 status 1\nsummary lock t\nsummary blocks 2 bytes 10\n\
+    summary arenas given 1 back 0 most 1\nsummary traced 0 peak 0\n";
 
 #[test]
 fn a_heap_has_a_line_for_each_arena_and_class(rt: HostRuntime) -> Result<(), Fail> {
@@ -170,8 +172,8 @@ fn the_summary_is_five_lines(rt: HostRuntime) -> Result<(), Fail> {
     let trace = heap_then_free(alloc)?;
     let free = summary_text(alloc, &totals(None), &trace, 0)?;
     assert_eq!(rt; free.as_slice(), SUMMARY);
-    let owned = summary_text(alloc, &totals(Some(0)), &trace, 1)?;
-    assert_eq!(rt; owned.as_slice(), SUMMARY_OF_OWNER);
+    let of_owner = summary_text(alloc, &totals(Some(0)), &trace, 1)?;
+    assert_eq!(rt; of_owner.as_slice(), SUMMARY_OF_OWNER);
     Ok(())
 }
 

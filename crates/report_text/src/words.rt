@@ -1,11 +1,12 @@
 //! Numbers, bytes, names, and the words of operations. An operation's line is spelt here as the trace
 //! that was read spells it, with keywords from the one table of `trace_model`.
-ghost use Rattle.std.specs.Prelude.{◌≡◌, ◌++◌, ◌∷◌, ◌<◌, OnOk, decimal};
+ghost use Rattle.std.specs.Prelude.{◌≡◌, ◌++◌, ◌∷◌, ◌<◌, OnOk, OnErr, decimal};
 ghost use Rattle.std.specs.Fmt.{signed_decimal};
 ghost use Rattle.trace_model.specs.Operands.{hex_word, letter_word, side_word, glyph};
 ghost use Rattle.trace_model.specs.Plain.{action_of, keyword_text, text_at, refuse};
 ghost use Rattle.trace_model.specs.Known.{IsKnown, IsKnownOp};
 ghost use Rattle.trace_model.specs.Spelling.{line_of, blank};
+ghost use Rattle.report_text.specs.Texts.{StaysInFront};
 
 use itoa::Buffer;
 use mem_base::{Letter, Op, Side, TextId, Texts};
@@ -14,23 +15,27 @@ use trace_model::Keyword;
 
 // ---- numbers and bytes
 
-/// Adds a number in decimal to the end of a text. The error is that there was no memory for it.
+/// Adds a number in decimal to the end of a text. The error is that there was no memory for it, and
+/// the text is as it was.
 pub fn push_number(text: &mut Vec<u8>, n: u64) -> Result<(), AllocError>
-    ensures { OnOk result (text.new.items ≡ text.old.items ++ decimal n) }
+    ensures ok { OnOk result (text.new.items ≡ text.old.items ++ decimal n) }
+    ensures err { OnErr result (text.new.items ≡ text.old.items) }
 {
     let mut buffer = Buffer::new();
     text.extend_from_slice(buffer.format(n).as_bytes())
 }
 
 pub(crate) fn push_wide(text: &mut Vec<u8>, n: u128) -> Result<(), AllocError>
-    ensures { OnOk result (text.new.items ≡ text.old.items ++ decimal n) }
+    ensures ok { OnOk result (text.new.items ≡ text.old.items ++ decimal n) }
+    ensures err { OnErr result (StaysInFront text.old.items text.new.items) }
 {
     let mut buffer = Buffer::new();
     text.extend_from_slice(buffer.format(n).as_bytes())
 }
 
 fn push_offset(text: &mut Vec<u8>, n: &i64) -> Result<(), AllocError>
-    ensures { OnOk result (text.new.items ≡ text.old.items ++ signed_decimal n.now) }
+    ensures ok { OnOk result (text.new.items ≡ text.old.items ++ signed_decimal n.now) }
+    ensures err { OnErr result (StaysInFront text.old.items text.new.items) }
 {
     let mut buffer = Buffer::new();
     text.extend_from_slice(buffer.format(*n).as_bytes())
@@ -44,7 +49,8 @@ fn digit(n: u8) -> u8
 }
 
 pub(crate) fn push_hex(text: &mut Vec<u8>, bytes: &[u8]) -> Result<(), AllocError>
-    ensures { OnOk result (text.new.items ≡ text.old.items ++ hex_word bytes.now) }
+    ensures ok { OnOk result (text.new.items ≡ text.old.items ++ hex_word bytes.now) }
+    ensures err { OnErr result (StaysInFront text.old.items text.new.items) }
 {
     for byte in bytes {
         text.extend_from_slice(&[digit(*byte / 16), digit(*byte % 16)])?;
@@ -56,14 +62,16 @@ pub(crate) fn push_hex(text: &mut Vec<u8>, bytes: &[u8]) -> Result<(), AllocErro
 
 // The keyword of an operation, which its line begins with.
 fn push_keyword(text: &mut Vec<u8>, keyword: Keyword) -> Result<(), AllocError>
-    ensures { OnOk result (text.new.items ≡ text.old.items ++ keyword_text keyword) }
+    ensures ok { OnOk result (text.new.items ≡ text.old.items ++ keyword_text keyword) }
+    ensures err { OnErr result (StaysInFront text.old.items text.new.items) }
 {
     text.extend_from_slice(keyword.word().as_bytes())
 }
 
 // A blank and the letter of a domain.
 fn push_letter(text: &mut Vec<u8>, letter: Letter) -> Result<(), AllocError>
-    ensures { OnOk result (text.new.items ≡ text.old.items ++ blank ∷ letter_word letter) }
+    ensures ok { OnOk result (text.new.items ≡ text.old.items ++ blank ∷ letter_word letter) }
+    ensures err { OnErr result (StaysInFront text.old.items text.new.items) }
 {
     text.push(b' ')?;
     text.push(letter.byte())?;
@@ -73,7 +81,8 @@ fn push_letter(text: &mut Vec<u8>, letter: Letter) -> Result<(), AllocError>
 // A blank and the name.
 pub(crate) fn push_name(text: &mut Vec<u8>, texts: &Texts, name: TextId) -> Result<(), AllocError>
     requires { IsKnown texts.now name }
-    ensures { OnOk result (text.new.items ≡ text.old.items ++ blank ∷ text_at texts.now name) }
+    ensures ok { OnOk result (text.new.items ≡ text.old.items ++ blank ∷ text_at texts.now name) }
+    ensures err { OnErr result (StaysInFront text.old.items text.new.items) }
 {
     text.push(b' ')?;
     text.extend_from_slice(texts.get(name))
@@ -81,7 +90,8 @@ pub(crate) fn push_name(text: &mut Vec<u8>, texts: &Texts, name: TextId) -> Resu
 
 // A blank and the word of a source.
 fn push_side(text: &mut Vec<u8>, side: Side) -> Result<(), AllocError>
-    ensures { OnOk result (text.new.items ≡ text.old.items ++ blank ∷ side_word side) }
+    ensures ok { OnOk result (text.new.items ≡ text.old.items ++ blank ∷ side_word side) }
+    ensures err { OnErr result (StaysInFront text.old.items text.new.items) }
 {
     match side {
         Side::Arena => text.extend_from_slice(b" arena"),
@@ -91,7 +101,8 @@ fn push_side(text: &mut Vec<u8>, side: Side) -> Result<(), AllocError>
 
 // The line of a refusal, without its end.
 fn push_refusal(text: &mut Vec<u8>, side: Side, number: u64) -> Result<(), AllocError>
-    ensures { OnOk result (text.new.items ≡ text.old.items ++ line_of (refuse side number)) }
+    ensures ok { OnOk result (text.new.items ≡ text.old.items ++ line_of (refuse side number)) }
+    ensures err { OnErr result (StaysInFront text.old.items text.new.items) }
 {
     push_keyword(text, Keyword::Refuse)?;
     push_side(text, side)?;
@@ -102,7 +113,8 @@ fn push_refusal(text: &mut Vec<u8>, side: Side, number: u64) -> Result<(), Alloc
 // The line of an operation, without its end.
 pub(crate) fn push_op(text: &mut Vec<u8>, texts: &Texts, op: &Op) -> Result<(), AllocError>
     requires { IsKnownOp texts.now op.now }
-    ensures { OnOk result (text.new.items ≡ text.old.items ++ line_of (action_of texts.now op.now)) }
+    ensures ok { OnOk result (text.new.items ≡ text.old.items ++ line_of (action_of texts.now op.now)) }
+    ensures err { OnErr result (StaysInFront text.old.items text.new.items) }
 {
     match op {
         Op::Acquire => push_keyword(text, Keyword::Acquire),

@@ -13,7 +13,7 @@ returns-in_err-write_all-clause-ends g c =
     rw (halt_is c.from_residual-in_err-write_all.result WriteFault c.from_residual-in_err-write_all.ensures.1)
     (record {
       more = record { entry = step.entry; track = did.step.track; picks = did.picks; next = did.step.next; same = did.trace; grows = did.step.grows; arenas = did.asks_arena; raws = did.asks_raw };
-      front = broke_is _ _ _ _ _ _ (c.as_slice.ensures.value ∙ buffer_is c.args.t old new step _ _ _ _ did.step (c.trace.ensures.trace ∙ did.trace) (c.len-number.ensures ∙ ap length c.history.ensures.entries) c.clear.ensures.items c.in_ok-push_event.ensures)
+      front = broke_is _ _ _ _ _ _ (c.as_slice.ensures.value ∙ buffer_is c.args.t old new step _ _ _ _ did.step (c.trace.ensures.trace ∙ did.trace) (c.len-number.ensures ∙ ap length c.history.ensures.entries) c.clear.ensures.items c.in_ok-push_event.ensures.ok)
           c.in_err-write_all.ensures.part c.in_err-write_all.ensures.counted;
     })
 
@@ -25,6 +25,6 @@ returns-clause-ends g c =
     let did = c.in_ok-step.ensures in
     record {
       more = record { entry = step.entry; track = did.step.track; picks = did.picks; next = did.step.next; same = did.trace; grows = did.step.grows; arenas = did.asks_arena; raws = did.asks_raw };
-      text = wrote_is _ _ _ _ _ _ (c.as_slice.ensures.value ∙ buffer_is c.args.t old new step _ _ _ _ did.step (c.trace.ensures.trace ∙ did.trace) (c.len-number.ensures ∙ ap length c.history.ensures.entries) c.clear.ensures.items c.in_ok-push_event.ensures)
+      text = wrote_is _ _ _ _ _ _ (c.as_slice.ensures.value ∙ buffer_is c.args.t old new step _ _ _ _ did.step (c.trace.ensures.trace ∙ did.trace) (c.len-number.ensures ∙ ap length c.history.ensures.entries) c.clear.ensures.items c.in_ok-push_event.ensures.ok)
           c.in_ok-write_all.ensures.whole c.in_ok-write_all.ensures.counted;
     }

@@ -1,4 +1,5 @@
-use Rattle.std.proofs.Common.{◌≡◌, ℕ, zero, suc, ◌<◌, ◌≤◌, List, [], ◌∷◌, ◌++◌, length, sym, ap, subst, ◌∙◌, arith, slice_get, Some}
+use Rattle.std.proofs.Common.{◌≡◌, ℕ, zero, suc, ◌<◌, ◌≤◌, List, [], ◌∷◌, ◌++◌, length, sym, ap, subst, ◌∙◌}
+use Rattle.std.proofs.Common.{arith, slice_get, Some}
 use Rattle.std.specs.Prelude.{codes}
 use Rattle.std.proofs.lemmas.Option.{slice_get_within}
 use Rattle.mem_base.specs.Texts.{unknown, with_text}
@@ -16,29 +17,37 @@ use Rattle.report_text.proofs.tests.heap_then_free.Goals as goal
 abbrev track_of : TextId → TextId → Track
 track_of name x = record { name = name; ops = Heap ∷ Free Mem x ∷ [] }
 
-name_known : (texts : List (List ℕ)) (name x : TextId) → name.0 < length texts → (t : ℕ) (track : Track) → slice_get (track_of name x ∷ []) t ≡ Some track → IsKnown texts track.name
-name_known texts name x lt zero track e = let same : track_of name x ≡ track = cc in subst (λ (u : Track). u.name.0 < length texts) same lt
-name_known texts name x lt (suc t) track e = absurd cc
+name_is_known : (texts : List (List ℕ)) (name x : TextId) → name.0 < length texts → (t : ℕ) (track : Track)
+    → slice_get (track_of name x ∷ []) t ≡ Some track → IsKnown texts track.name
+name_is_known texts name x lt zero track e =
+    let same : track_of name x ≡ track = cc in subst (λ (u : Track). u.name.0 < length texts) same lt
+name_is_known texts name x lt (suc t) track e = absurd cc
 
-op_known : (texts : List (List ℕ)) (name x : TextId) → x.0 < length texts → (t at : ℕ) (op : Op) → op_at (track_of name x ∷ []) t at ≡ Some op → IsKnownOp texts op × (at < MAX_OPS)
-op_known texts name x lt zero zero op e = let same : Heap ≡ op = cc in subst (λ (o : Op). IsKnownOp texts o × (0 < MAX_OPS)) same (tt, omega arith)
-op_known texts name x lt zero (suc zero) op e = let same : Free Mem x ≡ op = cc in subst (λ (o : Op). IsKnownOp texts o × (1 < MAX_OPS)) same (lt, omega arith)
-op_known texts name x lt zero (suc (suc at)) op e = absurd cc
-op_known texts name x lt (suc t) at op e = absurd cc
+op_is_known : (texts : List (List ℕ)) (name x : TextId) → x.0 < length texts → (t at : ℕ) (op : Op)
+    → op_at (track_of name x ∷ []) t at ≡ Some op → IsKnownOp texts op × (at < MAX_OPS)
+op_is_known texts name x lt zero zero op e =
+    let same : Heap ≡ op = cc in subst (λ (o : Op). IsKnownOp texts o × (0 < MAX_OPS)) same (tt, omega arith)
+op_is_known texts name x lt zero (suc zero) op e =
+    let same : Free Mem x ≡ op = cc in subst (λ (o : Op). IsKnownOp texts o × (1 < MAX_OPS)) same (lt, omega arith)
+op_is_known texts name x lt zero (suc (suc at)) op e = absurd cc
+op_is_known texts name x lt (suc t) at op e = absurd cc
 
-known : (trace : Trace) (name x : TextId) → trace.tracks ≡ track_of name x ∷ [] → name.0 < length trace.texts → x.0 < length trace.texts → IsKnownTrace trace
-known trace name x is of_name of_x = record {
+trace_is_known : (trace : Trace) (name x : TextId) → trace.tracks ≡ track_of name x ∷ []
+    → name.0 < length trace.texts → x.0 < length trace.texts → IsKnownTrace trace
+trace_is_known trace name x is of_name of_x = record {
   few = subst (λ (ts : List Track). length ts ≤ MAX_TRACKS) (sym is) (omega arith);
-  names = λ t track e. name_known trace.texts name x of_name t track (ap (λ (ts : List Track). slice_get ts t) (sym is) ∙ e);
-  ops = λ t at op e. op_known trace.texts name x of_x t at op (ap (λ (ts : List Track). op_at ts t at) (sym is) ∙ e);
+  names = λ t track e. name_is_known trace.texts name x of_name t track (ap (λ (ts : List Track). slice_get ts t) (sym is) ∙ e);
+  ops = λ t at op e. op_is_known trace.texts name x of_x t at op (ap (λ (ts : List Track). op_at ts t at) (sym is) ∙ e);
   count = subst (λ (ts : List Track). op_count ts ≤ MAX_OPS) (sym is) (omega arith);
 }
 
 pub returns-clause-known : goal.returns-clause-known
 returns-clause-known c =
     let texts = c.in_ok-texts.ensures in
-    let first : c.intern.new.self ≡ with_text (unknown ∷ []) (codes "t") = c.in_ok-t.ensures.table ∙ ap (λ ts. with_text ts (codes "t")) texts in
-    let both : c.intern-2.new.self ≡ with_text (with_text (unknown ∷ []) (codes "t")) (codes "x") = c.in_ok-x.ensures.table ∙ ap (λ ts. with_text ts (codes "x")) first in
+    let first : c.intern.new.self ≡ with_text (unknown ∷ []) (codes "t") =
+    c.in_ok-t.ensures.table ∙ ap (λ ts. with_text ts (codes "t")) texts in
+    let both : c.intern-2.new.self ≡ with_text (with_text (unknown ∷ []) (codes "t")) (codes "x") =
+    c.in_ok-x.ensures.table ∙ ap (λ ts. with_text ts (codes "x")) first in
     let two : length c.intern.new.self ≡ 2 = ap length first in
     let three : length c.intern-2.new.self ≡ 3 = ap length both in
     let t = c.in_ok-t.t in
@@ -46,6 +55,7 @@ returns-clause-known c =
     let of_t : t.0 < length c.intern.new.self = slice_get_within c.intern.new.self t.0 (codes "t") c.in_ok-t.ensures.number in
     let of_x : x.0 < length c.intern-2.new.self = slice_get_within c.intern-2.new.self x.0 (codes "x") c.in_ok-x.ensures.number in
     let ops : c.push-2.new.self ≡ Heap ∷ Free Mem x ∷ [] =
-    c.in_ok-push-2.ensures.ok ∙ ap (λ (l : List Op). l ++ Free Mem x ∷ []) (c.in_ok-push.ensures.ok ∙ ap (λ (l : List Op). l ++ Heap ∷ []) c.new-ops.ensures) in
-    let named : List Op → Track = λ (l : List Op). record { name = t; ops = l } in
-    known _ t x (c.in_ok-push-3.ensures.ok ∙ (λ i. c.new-tracks.ensures i ++ named (ops i) ∷ [])) (omega arith) of_x
+    c.in_ok-push-2.ensures.ok ∙ ap (λ (l : List Op). l ++ Free Mem x ∷ [])
+    (c.in_ok-push.ensures.ok ∙ ap (λ (l : List Op). l ++ Heap ∷ []) c.new-ops.ensures) in
+    let with_ops : List Op → Track = λ (l : List Op). record { name = t; ops = l } in
+    trace_is_known _ t x (c.in_ok-push-3.ensures.ok ∙ (λ i. c.new-tracks.ensures i ++ with_ops (ops i) ∷ [])) (omega arith) of_x
