@@ -7,3 +7,4 @@ mod LineSteps
 mod NameLaws
 mod TrackLaws
 mod TraceLaws
+mod TableLaws

@@ -4,3 +4,4 @@ pub mod Spelling
 pub mod Cause
 pub mod Reading
 pub mod Known
+pub mod Table

@@ -9,15 +9,16 @@ use Rattle.mem_base.specs.declared.trace.Op.{Op}
 use Rattle.mem_base.specs.declared.trace.Track.{Track}
 use Rattle.mem_base.specs.Name.{Name}
 use Rattle.trace_model.specs.Operands.{◌>>=◌}
-use Rattle.trace_model.specs.Plain.{PlainTrack, PlainTrace, plain, text_at, track_of, tracks_of, action_of, action_at}
+use Rattle.trace_model.specs.Plain.{PlainTrack, PlainTrace, plain, text_at, track_of, tracks_of, action_of, action_at, name_of}
 use Rattle.trace_model.specs.Spelling.{action_count, report_count}
 use Rattle.trace_model.specs.Known.{IsKnownOp}
+use Rattle.trace_model.specs.Table.{table_of, with_block}
 use Rattle.trace_model.specs.Reading.{item_at, is_misplaced, add, has_room, with_action}
 use Rattle.trace_model.specs.declared.cause.TraceCause.TheVariants.{TooMany}
 use Rattle.trace_model.specs.declared.keyword.Keyword.{Keyword}
 use Rattle.trace_model.specs.declared.keyword.Head.TheVariants as heads
-use Rattle.trace_model.proofs.CallerLemmas.{both, all_push, suc_not_zero, action_count-with, report_count-with}
-use Rattle.trace_reader.specs.Progress.{Extends, IsKnownTrack, IsKnownSoFar, is_report_op, has_place, counts_with, with_op}
+use Rattle.trace_model.proofs.CallerLemmas.{both, all_push, suc_not_zero, action_count-with, report_count-with, table_with_action}
+use Rattle.trace_reader.specs.Progress.{AddsBlock, Extends, IsKnownTrack, IsKnownSoFar, is_report_op, has_place, counts_with, with_op}
 use Rattle.trace_reader.specs.declared.progress.Progress.{Progress}
 use Rattle.trace_reader.proofs.Growth.{tracks_stay, tracks_still_known, few_more, report_is}
 
@@ -87,8 +88,9 @@ module _ (p : Progress) (news : List Name) (op : Op) (known : IsKnownSoFar p) (g
         ∙ ap (λ (b : Bool). cond b (Ok (record t { tracks = with_action t.tracks (action_of news op) })) (Err TooMany)) (room_is ∙ room)
         ∙ (λ i. Ok (record t { tracks = sym tracks_then i }))
 
-    pub still_known : IsKnownOp news op → has_place p.counts op ≡ true → 0 < length p.trace.tracks → IsKnownSoFar then
-    still_known fits room some =
+    pub still_known : IsKnownOp news op → AddsBlock p.trace.texts news op → has_place p.counts op ≡ true → 0 < length p.trace.tracks
+        → IsKnownSoFar then
+    still_known fits more room some =
         let rooms = both (nat_lt p.counts.ops MAX_OPS) (not (is_report_op op) || nat_lt p.counts.reports MAX_REPORTS) room in
         let below : p.counts.ops < MAX_OPS = ltb-true _ _ rooms.0 in
         let same : length ops ≡ length p.trace.tracks = ap length is ∙ with_op_length p.trace.tracks op in
@@ -96,6 +98,9 @@ module _ (p : Progress) (news : List Name) (op : Op) (known : IsKnownSoFar p) (g
         record {
           tracks = subst (AllByRecursion (IsKnownTrack news)) (sym is) (with_op_known news p.trace.tracks op fits (tracks_still_known p.trace.texts news p.trace.tracks grows known.tracks));
           few = omega (arith, same, known.few);
+          table =
+              more ∙ ap (λ (l : List Name). with_block l (name_of (action_of news op))) known.table
+              ∙ sym (table_with_action t.tracks (action_of news op) begun) ∙ ap table_of (sym tracks_then);
           texts = omega (arith, same, known.texts, few_more p.trace.texts news grows);
           counts = record {
             ops = omega (arith, known.counts.ops, action_count-with t.tracks (action_of news op) begun, ap action_count tracks_then);

@@ -11,14 +11,16 @@ use Rattle.mem_base.specs.declared.texts.TextId.{TextId}
 use Rattle.mem_base.specs.declared.trace.Pick.{Pick}
 use Rattle.mem_base.specs.declared.trace.Track.{Track}
 use Rattle.mem_base.specs.Name.{Name}
+use Rattle.mem_base.specs.Texts.{with_text}
 use Rattle.trace_model.specs.Operands.{◌>>=◌}
 use Rattle.trace_model.specs.Plain.{PlainTrack, PlainTrace, plain, text_at, tracks_of, picks_of}
 use Rattle.trace_model.specs.Spelling.{action_count, report_count, pick_count}
 use Rattle.trace_model.specs.Known.{IsKnown}
+use Rattle.trace_model.specs.Table.{table_of}
 use Rattle.trace_model.specs.Reading.{start, with_track, index_of, pick}
 use Rattle.trace_model.specs.declared.cause.TraceCause.{TraceCause}
 use Rattle.trace_model.specs.declared.cause.TraceCause.TheVariants.{NoTrack, SameTrack, TooMany}
-use Rattle.trace_model.proofs.CallerLemmas.{all_push, count_of_new, reports_of_new}
+use Rattle.trace_model.proofs.CallerLemmas.{all_push, count_of_new, reports_of_new, table_with_track}
 use Rattle.trace_reader.specs.Progress.{Extends, IsKnownTrack, IsKnownSoFar}
 use Rattle.trace_reader.specs.declared.progress.Progress.{Progress}
 use Rattle.trace_reader.proofs.Growth.{tracks_stay, tracks_still_known, few_more}
@@ -118,13 +120,16 @@ module _ (p : Progress) (name : Name) (known : IsKnownSoFar p) where
           then_starts ∙ ap (λ (b : Bool). cond b (Ok (with_track t name)) (Err TooMany)) (lt-ltb (length t.tracks) MAX_TRACKS (omega (arith, room, count_plain)))
           ∙ (λ i. Ok (record t { tracks = sym tracks_then i }))
 
-      pub start_known : IsKnown news id → IsKnownSoFar begun
-      start_known there =
+      pub start_known : IsKnown news id → news ≡ with_text p.trace.texts name → IsKnownSoFar begun
+      start_known there more =
           let longer : length ts ≡ length p.trace.tracks + 1 = ap length pushed ∙ length-append p.trace.tracks (record { name = id; ops = [] } ∷ []) in
           record {
             tracks = subst (AllByRecursion (IsKnownTrack news)) (sym pushed)
                 (all_push (IsKnownTrack news) p.trace.tracks (record { name = id; ops = [] }) (tracks_still_known p.trace.texts news p.trace.tracks grows known.tracks) (record { name = there; ops = tt }));
             few = omega (arith, longer, room);
+            table =
+                more ∙ ap (λ (l : List Name). with_text l name) known.table
+                ∙ sym (table_with_track t.tracks name) ∙ ap table_of (sym tracks_then);
             texts = omega (arith, longer, known.texts, few_more p.trace.texts news grows);
             counts = record {
               ops = known.counts.ops ∙ sym (count_of_new t.tracks name) ∙ ap action_count (sym tracks_then);
@@ -161,6 +166,7 @@ module _ (p : Progress) (track times : ℕ) (known : IsKnownSoFar p) where
     pick_known = record {
       tracks = known.tracks;
       few = known.few;
+      table = known.table;
       texts = known.texts;
       counts = record {
         ops = known.counts.ops;

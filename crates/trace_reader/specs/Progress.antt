@@ -5,9 +5,10 @@ use Rattle.mem_base.specs.declared.limits.TheConstants.{MAX_OPS, MAX_PICKS, MAX_
 use Rattle.mem_base.specs.declared.trace.Op.{Op}
 use Rattle.mem_base.specs.declared.trace.Track.{Track}
 use Rattle.mem_base.specs.Name.{Name}
-use Rattle.trace_model.specs.Plain.{PlainTrace, plain, action_of, is_report}
+use Rattle.trace_model.specs.Plain.{PlainTrace, plain, action_of, is_report, name_of}
 use Rattle.trace_model.specs.Spelling.{action_count, report_count, pick_count}
 use Rattle.trace_model.specs.Known.{IsKnown, IsKnownOp}
+use Rattle.trace_model.specs.Table.{table_of, with_block}
 use Rattle.trace_reader.specs.declared.progress.Counts.{Counts}
 use Rattle.trace_reader.specs.declared.progress.Progress.{Progress}
 
@@ -16,6 +17,10 @@ pub record Extends (old new : List Name) : Type 0 where
   pub more : List Name
   pub few : length more ≤ 2
   pub grown : new ≡ old ++ more
+
+-- the table got the name of the block that an operation works on, where it works on one and that was not there
+abbrev pub AddsBlock : List Name → List Name → Op → Type 0
+AddsBlock old new op = new ≡ with_block old (name_of (action_of new op))
 
 -- its name and those of its operations are in the table
 pub record IsKnownTrack (texts : List Name) (t : Track) : Type 0 where
@@ -28,10 +33,11 @@ pub record AreCounted (c : Counts) (t : PlainTrace) : Type 0 where
   pub reports : c.reports ≡ report_count t.tracks
   pub picks : c.picks ≡ pick_count t.picks
 
--- each name is in the table, each line has added two texts at most, and the limits are kept
+-- the table has the names of the lines so far, each line has added two texts at most, and the limits are kept
 pub record IsKnownSoFar (p : Progress) : Type 0 where
   pub tracks : AllByRecursion (IsKnownTrack p.trace.texts) p.trace.tracks
   pub few : length p.trace.tracks ≤ MAX_TRACKS
+  pub table : p.trace.texts ≡ table_of (plain p.trace).tracks
   pub texts : length p.trace.texts ≤ 1 + 2 * length p.trace.tracks + 2 * p.counts.ops
   pub counts : AreCounted p.counts (plain p.trace)
   pub few_ops : p.counts.ops ≤ MAX_OPS

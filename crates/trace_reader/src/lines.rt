@@ -5,6 +5,7 @@ ghost use Rattle.std.specs.List.{slice_split};
 ghost use Rattle.std.specs.Str.{bytes_eq};
 ghost use Rattle.trace_model.specs.Plain.{PlainTrace, plain};
 ghost use Rattle.trace_model.specs.Known.{IsKnownTrace};
+ghost use Rattle.trace_model.specs.Table.{table_of};
 ghost use Rattle.trace_model.specs.Spelling.{line_end, header, spelling, IsWellFormed};
 ghost use Rattle.trace_model.specs.Reading.{trace_at, lines_at, opening};
 ghost use Rattle.trace_model.specs.Reading as Reading;
@@ -26,6 +27,8 @@ pub fn read_trace(alloc: Global, bytes: &[u8]) -> Result<Trace, TraceError>
     // Which line is the first faulty one, and why.
     ensures exact { Reads plain result (trace_at bytes.now) }
     ensures known { IfOk result IsKnownTrace }
+    // Its table has the names that the lines say, each once, and no other text but the unknown one.
+    ensures table { IfOk result (λ t. t.texts ≡ table_of (plain t).tracks) }
 {
     read(alloc, bytes)
 }
@@ -33,6 +36,7 @@ pub fn read_trace(alloc: Global, bytes: &[u8]) -> Result<Trace, TraceError>
 // The trace of the lines, or the first fault.
 fn read(alloc: Global, bytes: &[u8]) -> Result<Trace, TraceError>
     ensures known { IfOk result IsKnownTrace }
+    ensures table { IfOk result (λ t. t.texts ≡ table_of (plain t).tracks) }
     ensures read { Reads plain result (trace_at bytes.now) }
 {
     match next_line(bytes) {
@@ -73,6 +77,7 @@ fn end_cause(line: &[u8]) -> TraceCause
 // What stands behind the header.
 fn read_lines(alloc: Global, bytes: &[u8]) -> Result<Trace, TraceError>
     ensures known { IfOk result IsKnownTrace }
+    ensures table { IfOk result (λ t. t.texts ≡ table_of (plain t).tracks) }
     ensures read { Reads plain result (lines_at 2 opening (slice_split (λ b. b == line_end) bytes.now)) }
 {
     let mut progress = match Progress::new(alloc) {

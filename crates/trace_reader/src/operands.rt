@@ -3,7 +3,10 @@
 ghost use Rattle.std.specs.Prelude.{◌≡◌, ◌*◌, ◌+◌, ◌-◌, ◌^◌, ◌≤◌, ◌&&◌, nat_lt, length, IfOk, Some, None, if◌then◌else◌};
 ghost use Rattle.std.specs.List.{list_all};
 ghost use Rattle.mem_base.specs.Offset.{IsOffset};
-ghost use Rattle.trace_model.specs.Operands.{is_between, is_name_byte, digits_from, number_at, offset_at, forward_at, backward_at, number_in, count_at, refusal_at, times_at, name_at, letter_at, side_at, hex_from, hex_at, digit_of};
+ghost use Rattle.trace_model.specs.Operands.{is_between, is_name_byte, digits_from, number_at, offset_at};
+ghost use Rattle.trace_model.specs.Operands.{forward_at, backward_at, number_in, count_at, refusal_at};
+ghost use Rattle.trace_model.specs.Operands.{times_at, name_at, letter_at, side_at, hex_from, hex_at};
+ghost use Rattle.trace_model.specs.Operands.{digit_of};
 ghost use Rattle.trace_model.specs.Reading.{head_at};
 ghost use Rattle.trace_reader.specs.Answers.{Gives};
 

@@ -1,13 +1,16 @@
 //! Operations, read from the words of their lines. The operands are read from left to right, then what
 //! they say together is checked, and the block's name goes into the table last.
-ghost use Rattle.std.specs.Prelude.{◌≡◌, ◌-◌, ◌<◌, ◌^◌, length, map, IfOk, slice_get, Some, Ok, Err, if◌then◌else◌};
+ghost use Rattle.std.specs.Prelude.{◌≡◌, ◌-◌, ◌<◌, ◌^◌, length, map, IfOk, OnOk, slice_get, Some, None, Ok, Err};
+ghost use Rattle.std.specs.Prelude.{if◌then◌else◌};
 ghost use Rattle.mem_base.specs.Name.{Name};
+ghost use Rattle.mem_base.specs.Texts.{with_text};
 ghost use Rattle.trace_model.specs.Operands.{is_forged};
-ghost use Rattle.trace_model.specs.Plain.{action_of, malloc_at, calloc_at, realloc_at, free_at, poke_at, peek_at, refuse_at, action_at};
+ghost use Rattle.trace_model.specs.Plain.{action_of, name_of, malloc_at, calloc_at, realloc_at, free_at};
+ghost use Rattle.trace_model.specs.Plain.{poke_at, peek_at, refuse_at, action_at};
 ghost use Rattle.trace_model.specs.Known.{IsKnown, IsKnownOp};
 ghost use Rattle.trace_model.specs.declared.cause.TraceCause.TheVariants.{ForgedLetter};
 ghost use Rattle.trace_reader.specs.Answers.{Gives};
-ghost use Rattle.trace_reader.specs.Progress.{Extends};
+ghost use Rattle.trace_reader.specs.Progress.{AddsBlock, Extends};
 
 use crate::error::LineError;
 use crate::operands::{count, hex, letter, name, number, offset, refusal, side};
@@ -21,6 +24,7 @@ pub fn intern(texts: &mut Texts, name: &[u8]) -> Result<TextId, AllocError>
     requires { length texts.old < 2 ^ 32 - 1 }
     ensures grows { Extends texts.old texts.new }
     ensures number { IfOk result (λ id. slice_get texts.new id.0 ≡ Some name.now) }
+    ensures table { OnOk result (texts.new ≡ with_text texts.old name.now) }
     ensures known { IfOk result (IsKnown texts.new) }
 {
     texts.intern(name)
@@ -31,6 +35,7 @@ fn malloc(texts: &mut Texts, domain: &[u8], block: &[u8], size: &[u8]) -> Result
     requires { length texts.old < 2 ^ 32 - 1 }
     ensures grows { Extends texts.old texts.new }
     ensures op { Gives (action_of texts.new) result (malloc_at domain.now block.now size.now) }
+    ensures table { IfOk result (AddsBlock texts.old texts.new) }
     ensures known { IfOk result (IsKnownOp texts.new) }
 {
     let domain = letter(domain)?;
@@ -51,6 +56,7 @@ fn calloc(
     ensures grows { Extends texts.old texts.new }
     ensures op { Gives (action_of texts.new) result
         (calloc_at domain.now block.now elements.now size.now) }
+    ensures table { IfOk result (AddsBlock texts.old texts.new) }
     ensures known { IfOk result (IsKnownOp texts.new) }
 {
     let domain = letter(domain)?;
@@ -65,6 +71,7 @@ fn realloc(texts: &mut Texts, domain: &[u8], block: &[u8], size: &[u8]) -> Resul
     requires { length texts.old < 2 ^ 32 - 1 }
     ensures grows { Extends texts.old texts.new }
     ensures op { Gives (action_of texts.new) result (realloc_at domain.now block.now size.now) }
+    ensures table { IfOk result (AddsBlock texts.old texts.new) }
     ensures known { IfOk result (IsKnownOp texts.new) }
 {
     let domain = letter(domain)?;
@@ -78,6 +85,7 @@ fn free(texts: &mut Texts, domain: &[u8], block: &[u8]) -> Result<Op, LineError>
     requires { length texts.old < 2 ^ 32 - 1 }
     ensures grows { Extends texts.old texts.new }
     ensures op { Gives (action_of texts.new) result (free_at domain.now block.now) }
+    ensures table { IfOk result (AddsBlock texts.old texts.new) }
     ensures known { IfOk result (IsKnownOp texts.new) }
 {
     let domain = letter(domain)?;
@@ -106,6 +114,7 @@ fn poke(
     requires { length texts.old < 2 ^ 32 - 1 }
     ensures grows { Extends texts.old texts.new }
     ensures op { Gives (action_of texts.new) result (poke_at block.now at.now digits.now) }
+    ensures table { IfOk result (AddsBlock texts.old texts.new) }
     ensures known { IfOk result (IsKnownOp texts.new) }
 {
     name(block)?;
@@ -120,6 +129,7 @@ fn peek(texts: &mut Texts, block: &[u8], at: &[u8], size: &[u8]) -> Result<Op, L
     requires { length texts.old < 2 ^ 32 - 1 }
     ensures grows { Extends texts.old texts.new }
     ensures op { Gives (action_of texts.new) result (peek_at block.now at.now size.now) }
+    ensures table { IfOk result (AddsBlock texts.old texts.new) }
     ensures known { IfOk result (IsKnownOp texts.new) }
 {
     name(block)?;
@@ -132,6 +142,7 @@ fn peek(texts: &mut Texts, block: &[u8], at: &[u8], size: &[u8]) -> Result<Op, L
 #[tactic(auto, unfolding(trace_model::specs::Plain::refuse_at))]
 fn refuse(source: &[u8], request: &[u8]) -> Result<Op, LineError>
     ensures op { (texts : List Name) → Gives (action_of texts) result (refuse_at source.now request.now) }
+    ensures none { IfOk result (λ op. (texts : List Name) → name_of (action_of texts op) ≡ None) }
     ensures known { IfOk result (λ op. (texts : List Name) → IsKnownOp texts op) }
 {
     let source = side(source)?;
@@ -149,6 +160,7 @@ pub fn read_op(
     requires { length texts.old < 2 ^ 32 - 1 }
     ensures grows { Extends texts.old texts.new }
     ensures op { Gives (action_of texts.new) result (action_at keyword (map (λ w. w.now) words.now)) }
+    ensures table { IfOk result (AddsBlock texts.old texts.new) }
     ensures known { IfOk result (IsKnownOp texts.new) }
 {
     match (keyword, words) {

@@ -14,7 +14,9 @@ use trace_model::TraceCause;
 pub fn next_line(bytes: &[u8]) -> Option<(&[u8], &[u8])>
     ensures { MatchOption result
         (slice_split (λ b. b == line_end) bytes.now ≡ bytes.now ∷ [])
-        (λ x. (slice_split (λ b. b == line_end) bytes.now ≡ x.0.now ∷ slice_split (λ b. b == line_end) x.1.now) × (length x.1.now < length bytes.now)) }
+        (λ x. (slice_split (λ b. b == line_end) bytes.now
+        ≡ x.0.now ∷ slice_split (λ b. b == line_end) x.1.now)
+        × (length x.1.now < length bytes.now)) }
 {
     match memchr(b'\n', bytes) {
         Some(at) => Some((&bytes[..at], &bytes[at + 1..])),

@@ -12,7 +12,7 @@ returns-clause-known c =
     let op = c.in_ok-op.op in
     let room = test_holds (has_place p.counts op) (Ok tt) TooMany tt (sym c.in_ok-add_op.ensures.room) in
     subst (λ (n : Counts). IsKnownSoFar (record { trace = record { texts = c.read_op.new.texts; tracks = c.push_op.new.tracks; picks = p.trace.picks }; counts = n })) (sym c.in_ok-add_op.ensures.counts)
-    (still_known p c.read_op.new.texts op c.requires.known c.in_ok-op.ensures.grows c.push_op.new.tracks c.in_ok-push_op.ensures c.in_ok-op.ensures.known room.0 (some_begun p c.args.keyword c.requires.placed))
+    (still_known p c.read_op.new.texts op c.requires.known c.in_ok-op.ensures.grows c.push_op.new.tracks c.in_ok-push_op.ensures c.in_ok-op.ensures.known c.in_ok-op.ensures.table room.0 (some_begun p c.args.keyword c.requires.placed))
 
 pub returns-clause-read : goal.returns-clause-read
 returns-clause-read c =

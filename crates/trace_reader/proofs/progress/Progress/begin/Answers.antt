@@ -15,7 +15,7 @@ pub returns-clause-known : goal.returns-clause-known
 returns-clause-known c =
     start_known c.args.self.now c.args.text.now c.requires c.track_named.result c.track_named.ensures (sym c.is_ok.ensures.value ∙ c.if-is_ok.false)
     c.intern.new.texts c.in_ok-name.name c.in_ok-name.ensures.grows c.in_ok-name.ensures.number (omega (arith, c.if-len-ge-MAX_TRACKS.false, c.len.ensures)) c.push.new.self
-    (c.in_ok-push.ensures.ok ∙ ap (λ (o : List Op). c.args.self.now.trace.tracks ++ record { name = c.in_ok-name.name; ops = o } ∷ []) c.new-ops.ensures) c.in_ok-name.ensures.known
+    (c.in_ok-push.ensures.ok ∙ ap (λ (o : List Op). c.args.self.now.trace.tracks ++ record { name = c.in_ok-name.name; ops = o } ∷ []) c.new-ops.ensures) c.in_ok-name.ensures.known c.in_ok-name.ensures.table
 
 pub returns-clause-read : goal.returns-clause-read
 returns-clause-read c =
