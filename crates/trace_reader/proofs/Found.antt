@@ -19,7 +19,7 @@ use Rattle.trace_reader.specs.declared.error.TraceError.{TraceError}
 use Rattle.trace_reader.specs.Answers.{Reads}
 use Rattle.trace_reader.specs.Progress.{IsKnownTrack, IsKnownSoFar}
 use Rattle.trace_reader.specs.declared.progress.Progress.{Progress}
-use Rattle.trace_reader.proofs.TrackSteps.{name_known}
+use Rattle.trace_reader.proofs.TrackSteps.{all_at, name_is_known}
 
 pub is_found : (bytes : List ℕ) (r : Result Trace TraceError) → Reads plain r (trace_at bytes) → IfOk r (λ t. IsWellFormed (plain t) × (bytes ≡ spelling (plain t)))
 is_found bytes (Ok t) read = trace_takes bytes (plain t) read
@@ -30,18 +30,13 @@ is_read bytes r read t well is = subst (Reads plain r) (read_back bytes t well i
 
 -- ---- the tracks of a trace that was read
 
-op_known : (texts : List Name) (ops : List Op) (at : ℕ) (op : Op) → AllByRecursion (IsKnownOp texts) ops → slice_get ops at ≡ Some op → IsKnownOp texts op
-op_known texts [] at op known is = absurd cc
-op_known texts (o ∷ ops) zero op known is =
-    let e : o ≡ op = cc in
-    subst (IsKnownOp texts) e known.0
-op_known texts (o ∷ ops) (suc at) op known is = op_known texts ops at op known.1 is
-
 -- an operation of a track is known, and its place is below the number of all operations
 op_known_at : (texts : List Name) (ts : List Track) → AllByRecursion (IsKnownTrack texts) ts → (t at : ℕ) (op : Op) → op_at ts t at ≡ Some op → IsKnownOp texts op × (at < op_count ts)
 op_known_at texts [] known t at op is = absurd cc
-op_known_at texts (u ∷ us) known zero at op is =
-    (op_known texts u.ops at op known.0.ops is, omega (arith, slice_get_within u.ops at op is, sum_by-cons (λ (x : Track). length x.ops) u us))
+op_known_at texts (u ∷ us) known zero at op is = (
+  all_at (IsKnownOp texts) u.ops at op known.0.ops is,
+  omega (arith, slice_get_within u.ops at op is, sum_by-cons (λ (x : Track). length x.ops) u us),
+)
 op_known_at texts (u ∷ us) known (suc t) at op is =
     let rest = op_known_at texts us known.1 t at op is in
     (rest.0, omega (arith, rest.1, sum_by-cons (λ (x : Track). length x.ops) u us))
@@ -56,7 +51,7 @@ trace_known p known =
     let few : op_count p.trace.tracks ≤ MAX_OPS = omega (arith, ops_counted p.trace.texts p.trace.tracks, known.counts.ops, known.few_ops) in
     record {
       few = known.few;
-      names = λ t found e. name_known p.trace.texts p.trace.tracks t found known.tracks e;
+      names = λ t found e. name_is_known p.trace.texts p.trace.tracks t found known.tracks e;
       ops = λ t place op e.
           let one = op_known_at p.trace.texts p.trace.tracks known.tracks t place op e in
           (one.0, omega (arith, one.1, few));

@@ -27,15 +27,17 @@ use Rattle.trace_reader.proofs.Growth.{tracks_stay, tracks_still_known, few_more
 
 -- ---- the track of a name
 
-known_at : (texts : List Name) (ts : List Track) (at : ℕ) (t : Track) → AllByRecursion (IsKnownTrack texts) ts → slice_get ts at ≡ Some t → IsKnownTrack texts t
-known_at texts [] at t known is = absurd cc
-known_at texts (u ∷ us) zero t known is =
-    let same : u ≡ t = cc in
-    subst (IsKnownTrack texts) same known.0
-known_at texts (u ∷ us) (suc at) t known is = known_at texts us at t known.1 is
+-- what holds of all holds of the one at a place
+pub all_at : {X : Type 0} (P : X → Type 0) (xs : List X) (at : ℕ) (x : X) → AllByRecursion P xs → slice_get xs at ≡ Some x → P x
+all_at P [] at x all is = absurd cc
+all_at P (y ∷ ys) zero x all is =
+    let same : y ≡ x = cc in
+    subst P same all.0
+all_at P (y ∷ ys) (suc at) x all is = all_at P ys at x all.1 is
 
-pub name_known : (texts : List Name) (ts : List Track) (at : ℕ) (t : Track) → AllByRecursion (IsKnownTrack texts) ts → slice_get ts at ≡ Some t → IsKnown texts t.name
-name_known texts ts at t known is = (known_at texts ts at t known is).name
+pub name_is_known : (texts : List Name) (ts : List Track) (at : ℕ) (t : Track) → AllByRecursion (IsKnownTrack texts) ts
+    → slice_get ts at ≡ Some t → IsKnown texts t.name
+name_is_known texts ts at t known is = (all_at (IsKnownTrack texts) ts at t known is).name
 
 -- no track before a place has the name
 abbrev pub NoneBefore : List Name → List Track → Name → ℕ → Type 0
