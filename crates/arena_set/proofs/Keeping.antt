@@ -142,7 +142,7 @@ module _ (r new : RegionView) (first free used : ℕ) (os : List (Option ℕ)) (
   }
 
   pub back_returns : PoolReturns (arena_view r (free_list r first free used) os) (arena_view new (free_list new place (free + 1) used) (set os k None)) k
-  back_returns = subst (λ x. PoolReturns (arena_view r (free_list r first free used) os) x k) back_view (returns r (free_list r first free used) os k kept.arena lt out idle new base maker only_here in_pool)
+  back_returns = subst (λ x. PoolReturns (arena_view r (free_list r first free used) os) x k) back_view (returns r (free_list r first free used) os k kept.arena lt out idle new base maker only_here in_pool (λ i q. q))
 
   pub back_loans : arena_loans (arena_view new (free_list new place (free + 1) used) (set os k None)) ≡ arena_loans (arena_view r (free_list r first free used) os)
   back_loans = ap arena_loans (sym back_view) ∙ return_loans r (free_list r first free used) os k kept.arena lt out idle new base maker only_here in_pool

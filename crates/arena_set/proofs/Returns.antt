@@ -89,8 +89,8 @@ module _ (r : RegionView) (free : List ℕ) (os : List (Option ℕ)) (k : ℕ) (
   pub return_sound : IsArena (arena_view new (k ∷ free) (set os k None))
   return_sound = subst IsArena told_is told_sound
 
-  pub returns : PoolReturns a (arena_view new (k ∷ free) (set os k None)) k
-  returns = subst (λ x. PoolReturns a x k) told_is (record { base = refl; maker = refl; long = only.length; free = refl; pools = refl; beside = beside })
+  pub returns : ((i : ℕ) → P i → InRun (pool_offset r.base k + 16) 8 i) → PoolReturns a (arena_view new (k ∷ free) (set os k None)) k
+  returns narrow = subst (λ x. PoolReturns a x k) told_is (record { base = refl; maker = refl; long = only.length; free = refl; pools = refl; only = λ i far. only.kept i (λ p. far (narrow i p)) })
 
   pub return_loans : arena_loans (arena_view new (k ∷ free) (set os k None)) ≡ arena_loans a
   return_loans = ap arena_loans (sym told_is) ∙ gave_loans a k sound lt out idle

@@ -69,14 +69,18 @@ arena_view region free numbers = record { region = region; free = free; pools = 
 
 -- ---- what calls do to one arena
 
--- b is a after pool k came back. No cell has changed but those of pool k
+-- no cell has changed but the eight of the word for the next pool in pool k's header
+abbrev pub OnlyNext : ArenaView → ArenaView → ℕ → Type 0
+OnlyNext a b k = (i : ℕ) → (InRun (pool_offset a.region.base k + 16) 8 i → ⊥) → get_or b.region.cells i None ≡ get_or a.region.cells i None
+
+-- b is a after pool k came back
 pub record PoolReturns (a b : ArenaView) (k : ℕ) : Type 0 where
   pub base : b.region.base ≡ a.region.base
   pub maker : b.region.maker ≡ a.region.maker
   pub long : length b.region.cells ≡ length a.region.cells
   pub free : b.free ≡ k ∷ a.free
   pub pools : b.pools ≡ set a.pools k None
-  pub beside : (i : ℕ) → (InRun (pool_offset a.region.base k) POOL_BYTES i → ⊥) → get_or b.region.cells i None ≡ get_or a.region.cells i None
+  pub only : OnlyNext a b k
 
 -- b is a with pool k as t. No cell has changed but those of pool k
 pub record PoolChange (a b : ArenaView) (k : ℕ) (t : Started) : Type 0 where
