@@ -2,3 +2,5 @@ pub mod CallerLemmas
 mod Plans
 mod Rows
 mod Slots
+mod BitLaws
+mod Bitmap

@@ -8,16 +8,11 @@ use Rattle.extents.specs.Sums.{tally, Has, Inserted, Removed}
 use Rattle.extents.proofs.CallerLemmas.{inserted_first, inserted_under, length_inserted, covers_in, covers_out, covered, begins_tells}
 use Rattle.sources.specs.Source.{Granted, IsArena}
 use Rattle.sources.specs.Memory.{arena_window, slot_place, IsLeastFreeSlot}
-use Rattle.sources.specs.Kept.{slots_out, first_slot, AreSlots, IsSlotPlace, TakesSlot}
+use Rattle.sources.specs.Kept.{slots_out, first_slot, taken, AreSlots, IsSlotPlace, TakesSlot}
 
 -- the extent of the arena in slot i, where the first slot begins at b
 abbrev pub in_slot : ℕ → ℕ → Maker → Extent
 in_slot b i maker = record { place = b + i * 0x100000; len = 0x100000; maker = maker }
-
--- 1 where a region is out of the slot
-abbrev pub taken : Option Maker → ℕ
-taken None = 0
-taken (Some maker) = 1
 
 -- ---- which addresses are out
 
@@ -109,11 +104,18 @@ length_anywhere b c [] = refl
 length_anywhere b c (None ∷ ss) = length_anywhere (b + 0x100000) (c + 0x100000) ss
 length_anywhere b c (Some m ∷ ss) = let e = length_anywhere (b + 0x100000) (c + 0x100000) ss in omega arith
 
--- where each slot is taken, as many are out as there are slots
-pub all_taken : (b : ℕ) (ss : List (Option Maker)) → ((j : ℕ) → j < length ss → IsSome (get_or ss j None)) → length (slots_out b ss) ≡ length ss
-all_taken b [] some = refl
-all_taken b (None ∷ ss) some = let here = some 0 (omega arith) in cc
-all_taken b (Some m ∷ ss) some = let e = all_taken (b + 0x100000) ss (λ j lt. some (suc j) (omega arith)) in omega arith
+-- where fewer are out than there are slots, one of them is free
+pub some_free : (b : ℕ) (ss : List (Option Maker)) → length (slots_out b ss) < length ss → (i : ℕ) × ((i < length ss) × (taken (get_or ss i None) ≡ 0))
+some_free b [] few = absurd (omega arith)
+some_free b (None ∷ ss) few = (0, (omega arith, refl))
+some_free b (Some m ∷ ss) few = let r = some_free (b + 0x100000) ss (omega arith) in let lt = r.1.0 in (suc r.0, (omega arith, r.1.1))
+
+-- where none is out, none of them is taken
+pub none_taken : (b : ℕ) (ss : List (Option Maker)) → slots_out b ss ≡ [] → (j : ℕ) → taken (get_or ss j None) ≡ 0
+none_taken b [] none j = refl
+none_taken b (None ∷ ss) none zero = refl
+none_taken b (None ∷ ss) none (suc j) = none_taken (b + 0x100000) ss none j
+none_taken b (Some m ∷ ss) none j = absurd (cc)
 
 -- one more free slot
 pub free_more : (b : ℕ) (ss : List (Option Maker)) → slots_out b (ss ++ None ∷ []) ≡ slots_out b ss

@@ -6,6 +6,7 @@ use Rattle.raw_region.specs.Cells.{AllHome}
 use Rattle.raw_region.specs.Region.{RegionView}
 use Rattle.extents.specs.Extent.{Extent, covers, begins}
 use Rattle.extents.specs.Sums.{tally}
+use Rattle.sources.specs.Bits.{bit_in}
 use Rattle.sources.specs.Memory.{bytes_of, slot_place}
 use Rattle.sources.specs.declared.raw.Held.{Held}
 
@@ -41,6 +42,16 @@ pub record TakesSlot (skew : ℕ) (region : RegionView) (old new : List (Option 
   pub free : get_or old slot None ≡ None
   pub below : (j : ℕ) → j < slot → IsSome (get_or old j None)
   pub is : new ≡ slice_set old slot (Some region.maker)
+
+-- 1 where a region is out of the slot
+abbrev pub taken : Option Maker → ℕ
+taken None = 0
+taken (Some maker) = 1
+
+-- the bits of 16 words tell which of 1,024 slots are taken
+pub record AreTold (slots : List (Option Maker)) (words : List ℕ) : Type 0 where
+  pub all : length words ≡ 16
+  pub bits : (j : ℕ) → j < 1024 → bit_in words j ≡ taken (get_or slots j None)
 
 -- there are 1,024 slots, of which so many are out, and at most 1,024 may be
 pub record AreSlots (slots : List (Option Maker)) (skew held max : ℕ) : Type 0 where

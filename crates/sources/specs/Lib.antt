@@ -1,3 +1,4 @@
+pub mod Bits
 pub mod Holder
 pub mod Kept
 pub mod Memory

@@ -8,11 +8,12 @@ ghost use Rattle.std.specs.Prelude.{IfOk, OnOk, OnErr, IsErrOf, MatchBool};
 ghost use Rattle.raw_region.specs.Cells.{AllHome};
 ghost use Rattle.extents.specs.Extent.{region_extent};
 ghost use Rattle.extents.specs.Sums.{Has, Removed};
-ghost use Rattle.sources.specs.Kept.{IsSlotPlace, TakesSlot, slots_out};
+ghost use Rattle.sources.specs.Kept.{AreTold, IsSlotPlace, TakesSlot, slots_out};
 ghost use Rattle.mem_base.specs.Plan.{IsPlanned};
 ghost use Rattle.sources.specs.Source.{refusals, Granted, IsArena, shape_after, ArenaShape};
 ghost use Rattle.sources.specs.Memory.{ArenasRefuse, IsLeastFreeSlot, ListsAlso, arena_window, is_listed, slot_place};
 
+use crate::bits::{clear_bit, clear_bits, first_clear, set_bit};
 use crate::regions::make_region;
 use crate::requests::Requests;
 use crate::{ArenaSource, AskError};
@@ -38,6 +39,8 @@ pub struct MemArenas {
     skew: u8,
     held: u32,
     slots: Vec<Option<Maker>>,
+    // A bit for each slot, which is 1 where it is taken.
+    taken: Vec<u64>,
 }
 
 impl Model for MemArenas {
@@ -45,7 +48,7 @@ impl Model for MemArenas {
 
     ghost Value = { ArenasView };
 
-    ghost use Rattle.sources.specs.Kept.{slots_out, first_slot, AreSlots};
+    ghost use Rattle.sources.specs.Kept.{slots_out, first_slot, AreSlots, AreTold};
 
     ghost view = { λ a. record {
       requests = a.requests;
@@ -53,7 +56,7 @@ impl Model for MemArenas {
       out = slots_out (first_slot a.skew) a.slots.items;
     } };
 
-    ghost invariant = { λ a. AreSlots a.slots.items a.skew a.held a.max };
+    ghost invariant = { λ a. AreSlots a.slots.items a.skew a.held a.max × AreTold a.slots.items a.taken.items };
 }
 
 // Slots of which none is taken.
@@ -83,6 +86,7 @@ impl MemArenas {
             skew: 0,
             held: 0,
             slots: free_slots(alloc)?,
+            taken: clear_bits(alloc, MAX_ARENAS as usize / 64)?,
         })
     }
 }
@@ -92,21 +96,6 @@ fn has_room(held: u32, max: u32) -> bool
     ensures { MatchBool result (held < max) (max ≤ held) }
 {
     held < max
-}
-
-// The least free slot. There are 1,024 at most, and to fill an arena with zeros takes longer than to
-// look at each.
-fn first_free(slots: &[Option<Maker>]) -> usize
-    requires { length (slots_out 0 slots.now) < length slots.now }
-    ensures free { (result < length slots.now) × (get_or slots.now result None ≡ None) }
-    ensures below { (j : ℕ) → j < result → IsSome (get_or slots.now j None) }
-{
-    for (at, slot) in slots.iter().enumerate() {
-        if slot.is_none() {
-            return at;
-        }
-    }
-    unreachable!()
 }
 
 // Where a slot begins.
@@ -131,17 +120,21 @@ fn slot_at(place: u64, skew: u8) -> usize
 fn make_in_slot(
     alloc: Global,
     slots: &mut Vec<Option<Maker>>,
+    taken: &mut Vec<u64>,
     skew: u8,
 ) -> Result<Region, AllocError>
     requires all { length slots.old.items ≡ 1024 }
+    requires told { AreTold slots.old.items taken.old.items }
     requires room { length (slots_out 0 slots.old.items) < 1024 }
     ensures taken { IfOk result (λ r. TakesSlot skew r slots.old.items slots.new.items) }
     ensures left { OnErr result (slots.new.items ≡ slots.old.items) }
+    ensures told { AreTold slots.new.items taken.new.items }
 {
-    let slot = first_free(slots.as_slice());
+    let slot = first_clear(taken.as_slice());
     let place = place_of(slot, skew);
     let region = make_region(alloc, place, ARENA_BYTES)?;
     slots[slot] = Some(region.maker());
+    set_bit(taken, slot);
     Ok(region)
 }
 
@@ -183,7 +176,7 @@ impl ArenaSource for MemArenas {
         if self.requests.refuses_next(room) {
             return Err(AskError::Refused);
         }
-        match make_in_slot(self.alloc, &mut self.slots, self.skew) {
+        match make_in_slot(self.alloc, &mut self.slots, &mut self.taken, self.skew) {
             Ok(region) => {
                 self.held += 1;
                 Ok(region)
@@ -200,6 +193,7 @@ impl ArenaSource for MemArenas {
     {
         let slot = slot_at(region.base(), self.skew);
         self.slots[slot] = None;
+        clear_bit(&mut self.taken, slot);
         self.held -= 1;
         region.end();
     }

@@ -14,6 +14,7 @@
 #![tactic(auto)]
 
 mod arenas;
+mod bits;
 mod raw;
 mod regions;
 mod requests;

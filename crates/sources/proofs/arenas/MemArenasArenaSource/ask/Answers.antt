@@ -10,20 +10,20 @@ pub make_in_slot-requires-clause-room : goal.make_in_slot-requires-clause-room
 make_in_slot-requires-clause-room c =
     let s = c.self.inside in
     let room : s.held < s.max = had_room _ c.has_room-room.result c.refuses_next.result _ _ c.if-refuses_next.false c.refuses_next.ensures.refused c.has_room-room.ensures in
-    omega (arith, c.self.invariant.count, c.self.invariant.most, length_anywhere 0 (first_slot s.skew) s.slots.items)
+    omega (arith, c.self.invariant.0.count, c.self.invariant.0.most, length_anywhere 0 (first_slot s.skew) s.slots.items)
 
 pub invariant_of-self-in-Ok : goal.invariant_of-self-in-Ok
 invariant_of-self-in-Ok c =
-    let s = c.self.inside in slots_more s.skew s.held s.max s.slots.items c.self.invariant c.in-Ok.region c.make_in_slot.new.slots.items c.in-Ok.ensures.taken
+    let s = c.self.inside in (slots_more s.skew s.held s.max s.slots.items c.self.invariant.0 c.in-Ok.region c.make_in_slot.new.slots.items c.in-Ok.ensures.taken, c.make_in_slot.ensures.told)
 
 pub returns-in-Ok-clause-granted : goal.returns-in-Ok-clause-granted
 returns-in-Ok-clause-granted c =
     let s = c.self.inside in let new = c.make_in_slot.new.slots.items in
     subst (λ o. Granted c.in-Ok.region arena_window o (slots_out (first_slot s.skew) new)) (ap (λ v. v.out) c.self.view_is)
-    (granted s.skew s.held s.max s.slots.items c.self.invariant c.in-Ok.region new c.in-Ok.ensures.taken)
+    (granted s.skew s.held s.max s.slots.items c.self.invariant.0 c.in-Ok.region new c.in-Ok.ensures.taken)
 
 pub returns-in-Ok-clause-place : goal.returns-in-Ok-clause-place
 returns-in-Ok-clause-place c =
     let s = c.self.inside in let new = c.make_in_slot.new.slots.items in
     subst (λ (v : ArenasView). IsLeastFreeSlot v.shape.skew v.out c.in-Ok.region.base) c.self.view_is
-    (least s.skew s.held s.max s.slots.items c.self.invariant c.in-Ok.region new c.in-Ok.ensures.taken)
+    (least s.skew s.held s.max s.slots.items c.self.invariant.0 c.in-Ok.region new c.in-Ok.ensures.taken)
