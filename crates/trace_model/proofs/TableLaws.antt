@@ -1,5 +1,6 @@
 -- What one more line adds to the table of a trace's texts.
-use Rattle.std.proofs.Common.{◌≡◌, Bool, true, false, cond, not, ◌||◌, List, [], ◌∷◌, ◌++◌, length, Option, Some, None, refl, sym, ap, ◌∙◌, append_assoc, append-nil, true≢false}
+use Rattle.std.proofs.Common.{◌≡◌, Bool, true, false, cond, not, ◌||◌, List, [], ◌∷◌, ◌++◌, length, Option}
+use Rattle.std.proofs.Common.{Some, None, refl, sym, ap, ◌∙◌, append_assoc, append-nil, true≢false}
 use Rattle.std.specs.Prelude.{◌==◌}
 use Rattle.std.specs.List.{filter, list_any}
 use Rattle.std.specs.Option.{option_to_list}
@@ -34,9 +35,11 @@ same_turned x y = by (bytes_eq x y) (bytes_eq y x) refl refl
     by false true p q = sym p ∙ (bytes_eq-Decides x y).1 (sym (is_same y x q))
 
 -- a text stands in a list where it stands in it without another text
-stands_without : (x y : Name) (ts : List Name) → bytes_eq x y ≡ false → list_any (bytes_eq x) (filter (differs y) ts) ≡ list_any (bytes_eq x) ts
+stands_without : (x y : Name) (ts : List Name) → bytes_eq x y ≡ false
+    → list_any (bytes_eq x) (filter (differs y) ts) ≡ list_any (bytes_eq x) ts
 stands_without x y ts other =
-    any-filter_same (bytes_eq x) (differs y) true (λ k e. ap (differs y) (sym (is_same x k e)) ∙ ap not (same_turned y x ∙ other)) ts
+    any-filter_same (bytes_eq x) (differs y) true
+    (λ k e. ap (differs y) (sym (is_same x k e)) ∙ ap not (same_turned y x ∙ other)) ts
 
 module _ (x y : Name) (rest : List Name) where
   -- the texts that differ from the first one
@@ -56,9 +59,12 @@ module _ (x y : Name) (rest : List Name) where
   last false e = ap (λ (c : Bool). cond (not c) (x ∷ []) []) (same_turned y x ∙ e)
 
   longer : (same : Bool) → bytes_eq x y ≡ same → before false ≡ y ∷ others ++ cond same [] (x ∷ [])
-  longer same e = ap (λ (l : List Name). y ∷ l) (filter-append (differs y) rest (x ∷ []) ∙ ap (λ (l : List Name). others ++ l) (last same e))
+  longer same e =
+      ap (λ (l : List Name). y ∷ l) (filter-append (differs y) rest (x ∷ [])
+      ∙ ap (λ (l : List Name). others ++ l) (last same e))
 
-  either : (same stands : Bool) → bytes_eq x y ≡ same → list_any (bytes_eq x) rest ≡ stands → before stands ≡ after same (list_any (bytes_eq x) others)
+  either : (same stands : Bool) → bytes_eq x y ≡ same → list_any (bytes_eq x) rest ≡ stands
+      → before stands ≡ after same (list_any (bytes_eq x) others)
   either true true e h = refl
   either true false e h = longer true e ∙ ap (λ (l : List Name). y ∷ l) (append-nil others)
   either false true e h = ap (after false) (sym (stands_without x y rest e ∙ h))
@@ -73,17 +79,21 @@ firsts_push (y ∷ ys) x = ap (λ (l : List Name). y ∷ filter (differs y) l) (
 
 -- ---- one more line
 
-blocks_push : (actions : List Action) (a : Action) → blocks_in (actions ++ a ∷ []) ≡ blocks_in actions ++ option_to_list (name_of a)
+blocks_push : (actions : List Action) (a : Action)
+    → blocks_in (actions ++ a ∷ []) ≡ blocks_in actions ++ option_to_list (name_of a)
 blocks_push actions a =
     flat_map-append (λ b. option_to_list (name_of b)) actions (a ∷ [])
     ∙ ap (λ (l : List Name). blocks_in actions ++ l) (append-nil (option_to_list (name_of a)))
 
-pub table_with_track : (ts : List PlainTrack) (name : Name) → table_of (ts ++ record { name = name; actions = [] } ∷ []) ≡ with_text (table_of ts) name
+pub table_with_track : (ts : List PlainTrack) (name : Name)
+    → table_of (ts ++ record { name = name; actions = [] } ∷ []) ≡ with_text (table_of ts) name
 table_with_track ts name =
-    ap (λ (l : List Name). firsts (unknown ∷ l)) (flat_map-append (λ t. t.name ∷ blocks_in t.actions) ts (record { name = name; actions = [] } ∷ []))
+    ap (λ (l : List Name). firsts (unknown ∷ l))
+    (flat_map-append (λ t. t.name ∷ blocks_in t.actions) ts (record { name = name; actions = [] } ∷ []))
     ∙ firsts_push (unknown ∷ names_in ts) name
 
-names_with : (ts : List PlainTrack) (a : Action) → (length ts == 0) ≡ false → names_in (with_action ts a) ≡ names_in ts ++ option_to_list (name_of a)
+names_with : (ts : List PlainTrack) (a : Action) → (length ts == 0) ≡ false
+    → names_in (with_action ts a) ≡ names_in ts ++ option_to_list (name_of a)
 names_with [] a some = absurd (true≢false some)
 names_with (t ∷ []) a some =
     ap (λ (l : List Name). t.name ∷ l) (append-nil (blocks_in (t.actions ++ a ∷ [])) ∙ blocks_push t.actions a
@@ -92,7 +102,8 @@ names_with (t ∷ u ∷ ts) a some =
     ap (λ (l : List Name). (t.name ∷ blocks_in t.actions) ++ l) (names_with (u ∷ ts) a (suc_not_zero (length ts)))
     ∙ sym (append_assoc (t.name ∷ blocks_in t.actions) (names_in (u ∷ ts)) (option_to_list (name_of a)))
 
-pub table_with_action : (ts : List PlainTrack) (a : Action) → (length ts == 0) ≡ false → table_of (with_action ts a) ≡ with_block (table_of ts) (name_of a)
+pub table_with_action : (ts : List PlainTrack) (a : Action) → (length ts == 0) ≡ false
+    → table_of (with_action ts a) ≡ with_block (table_of ts) (name_of a)
 table_with_action ts a some = ap (λ (l : List Name). firsts (unknown ∷ l)) (names_with ts a some) ∙ by (name_of a)
   where
     by : (o : Option Name) → firsts (unknown ∷ names_in ts ++ option_to_list o) ≡ with_block (table_of ts) o
