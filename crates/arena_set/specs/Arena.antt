@@ -4,7 +4,7 @@ use Rattle.raw_region.specs.declared.maker.Maker.{Maker}
 use Rattle.raw_region.specs.Region.{RegionView, PieceView}
 use Rattle.extents.specs.Sums.{tally}
 use Rattle.extents.specs.Extent.{Extent, covers}
-use Rattle.layout_model.specs.declared.measures.TheConstants.{POOL_BYTES}
+use Rattle.layout_model.specs.declared.measures.TheConstants.{HEADER_BYTES, POOL_BYTES}
 use Rattle.layout_model.specs.Geometry.{first_pool, pool_offset, total_at, IsArenaRegion}
 use Rattle.layout_model.specs.Pool.{size_of, blocks_of, next_block, after_take, after_give, IsPool}
 use Rattle.layout_model.specs.Plain.{StandsFor}
@@ -90,6 +90,10 @@ pub record PoolChange (a b : ArenaView) (k : ℕ) (t : Started) : Type 0 where
   pub free : b.free ≡ a.free
   pub pools : b.pools ≡ set a.pools k (Some t)
   pub beside : (i : ℕ) → (InRun (pool_offset a.region.base k) POOL_BYTES i → ⊥) → get_or b.region.cells i None ≡ get_or a.region.cells i None
+
+-- no cell has changed but those of pool k's header
+abbrev pub OnlyHeader : ArenaView → ArenaView → ℕ → Type 0
+OnlyHeader a b k = (i : ℕ) → (InRun (pool_offset a.region.base k) HEADER_BYTES i → ⊥) → get_or b.region.cells i None ≡ get_or a.region.cells i None
 
 -- the pool after its next block was lent
 abbrev pub after_lending : Started → Started

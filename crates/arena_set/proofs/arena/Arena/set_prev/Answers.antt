@@ -1,8 +1,8 @@
-use Rattle.std.proofs.Common.{IsSome, Some, None, get_or, refl, inr, sym, subst, ap, ◌∙◌, ◌≡◌}
+use Rattle.std.proofs.Common.{IsSome, Some, None, get_or, refl, inr, sym, subst, ap, ◌∙◌, ◌≡◌, ◌+◌, ◌<◌, ◌≤◌, arith}
 use Rattle.layout_model.specs.Geometry.{pool_offset}
 use Rattle.arena_set.specs.Started.{Started, plain_of}
 use Rattle.arena_set.specs.FreeChain.{free_list}
-use Rattle.arena_set.specs.Arena.{ArenaView, IsArena, PoolChange, arena_loans, arena_view}
+use Rattle.arena_set.specs.Arena.{ArenaView, IsArena, OnlyHeader, PoolChange, arena_loans, arena_view}
 use Rattle.arena_set.specs.Kept.{IsKept}
 use Rattle.arena_set.proofs.Acts.{links_do, some_there, stands_at}
 use Rattle.arena_set.proofs.Keeping.{still_kept, told_same}
@@ -56,3 +56,9 @@ pub returns-clause-after : goal.returns-clause-after
 returns-clause-after c s there =
     let was = subst (λ (v : ArenaView). get_or v.pools c.args.pool None ≡ Some s) (sym c.self.view_is) there in
     subst (λ v. PoolChange v (after c) c.args.pool (record s { prev = c.args.place })) c.self.view_is (subst (λ x. PoolChange (before c) x c.args.pool (record s { prev = c.args.place })) (same c s was) (did c s was).1.0)
+
+pub returns-clause-only : goal.returns-clause-only
+returns-clause-only c =
+    let at : c.offset_of-at.result ≡ pool_offset c.self.inside.region.base c.args.pool = c.offset_of-at.ensures ∙ ap (λ b. pool_offset b c.args.pool) c.base.ensures in
+    let only : OnlyHeader (before c) (after c) c.args.pool = λ i out. c.set_prev.ensures.only.kept i (λ r. out (let r0 = r.0 in let r1 = r.1 in (omega arith, omega arith))) in
+    subst (λ v. OnlyHeader v (after c) c.args.pool) c.self.view_is only

@@ -58,4 +58,4 @@ returns-clause-links c a s is =
     let one : c.in-Some.arena ≡ a = read (before c).arenas (c.args.pool.arena - 1) c.index_mut.result.now a c.in-Some.arena was.there c.index_mut.ensures.value c.in-Some.is in
     let here : get_or c.in-Some.arena.pools c.args.pool.pool None ≡ Some s = subst (λ (x : ArenaView). get_or x.pools c.args.pool.pool None ≡ Some s) (sym one) is.there in
     subst (λ v. Links v (with_arena (before c) (c.args.pool.arena - 1) c.set_prev.new.self) c.args.pool (record s { prev = c.args.place })) c.self.view_is
-    (links (before c) c.args.pool c.in-Some.arena c.set_prev.new.self (record s { prev = c.args.place }) c.self.invariant.set (at c) c.set_prev.ensures.arena (c.set_prev.ensures.after s here) s here)
+    (links (before c) c.args.pool c.in-Some.arena c.set_prev.new.self (record s { prev = c.args.place }) c.self.invariant.set (at c) c.set_prev.ensures.arena (c.set_prev.ensures.after s here) s here c.set_prev.ensures.only)
