@@ -193,6 +193,17 @@ arena_few a s =
 pub loans_few : (v : SetView) → IsSet v → length (loans_of v.arenas) ≤ 65344 * length v.arenas
 loans_few v s = flat_few IsArena (λ n a. arena_loans a) 65344 1 v.arenas (λ n a h. arena_few a h) s.arenas
 
+pool_few : (a : ArenaView) (n k : ℕ) (ps : List (Option Started)) → length (flat (λ k s. pool_line n a.region.base k s ∷ []) k ps) ≤ length ps
+pool_few a n k [] = omega arith
+pool_few a n k (None ∷ ps) = let i = pool_few a n (k + 1) ps in omega arith
+pool_few a n k (Some s ∷ ps) = let i = pool_few a n (k + 1) ps in omega arith
+
+-- and the number of pools that were started
+pub lines_few : (v : SetView) → IsSet v → length (lines_of v.arenas) ≤ 64 * length v.arenas
+lines_few v s =
+    flat_few IsArena (λ n a. flat (λ k s. pool_line n a.region.base k s ∷ []) 0 a.pools) 64 1 v.arenas
+    (λ n a h. let f = pool_few a n 0 a.pools in let most = (some_pools a.region.base).1 in let count = h.count in omega arith) s.arenas
+
 -- ---- regions by number
 
 pub region_at : (n : ℕ) (arenas : List (Option ArenaView)) → get_or (map region_in arenas) n None ≡ region_in (get_or arenas n None)

@@ -1,30 +1,28 @@
 -- A heap without blocks in use is ended, and a new one is empty.
-use Rattle.std.proofs.Common.{◌≡◌, ◌≢◌, ℕ, zero, suc, ◌+◌, ◌-◌, ◌≤◌, inl, inr, cond, eqb, leb, List, [], ◌∷◌, length, get_or, replicate, Some, None, refl, sym, ap, subst, ◌∙◌, arith}
-use Rattle.std.proofs.lemmas.Bool.Decides.{eqb_tells, leb_tells}
+use Rattle.std.proofs.Common.{◌≡◌, ◌≢◌, ℕ, zero, suc, ◌+◌, ◌-◌, ◌≤◌, inl, inr, cond, eqb, List, [], ◌∷◌, length, get_or, replicate, Some, None, refl, sym, ap, subst, ◌∙◌, arith}
+use Rattle.std.proofs.lemmas.Bool.Decides.{eqb_tells}
 use Rattle.std.proofs.lemmas.List.{get_or-map}
 use Rattle.raw_region.specs.Cells.{AllHome}
 use Rattle.raw_region.specs.Region.{RegionView}
-use Rattle.extents.specs.Sums.{tally, Has, Removed}
-use Rattle.extents.specs.Extent.{Extent, MeetsNone, covers, region_extent}
-use Rattle.extents.proofs.CallerLemmas.{covers_in, tally_has, length_inserted, has-map, has_new}
+use Rattle.extents.specs.Sums.{Has, Removed}
+use Rattle.extents.specs.Extent.{Extent, region_extent}
+use Rattle.extents.proofs.CallerLemmas.{length_inserted, has-map, has_new}
 use Rattle.links.specs.Nodes.{times}
 use Rattle.sources.specs.Source.{SourceView, ArenaShape}
 use Rattle.sources.specs.Holder.{Traded}
 use Rattle.sources.proofs.CallerLemmas.{traded_gave, traded_then}
 use Rattle.layout_model.specs.Pool.{blocks_of, live_of, size_of}
-use Rattle.heap_model.proofs.CallerLemmas.{arenas_are_free, tally_some, empty_tables_are_kept}
-use Rattle.layout_model.specs.Geometry.{total_at, pool_offset, Site, in_arena, ArenaHas, PoolLine}
+use Rattle.heap_model.proofs.CallerLemmas.{arenas_are_free, empty_tables_are_kept}
+use Rattle.layout_model.specs.Geometry.{total_at, pool_offset, PoolLine}
 use Rattle.arena_set.specs.Arena.{ArenaView, pool_loans, block_extent, arena_loans}
 use Rattle.arena_set.specs.Set.{SetView, empty_set, line_of as usable_line, dry_of, dry_entry, usable_of, usable_times, regions_of, loans_of, IsSet}
 use Rattle.arena_set.specs.Calls.{IsAt, AllIdle, HasNone, EndsOne}
 use Rattle.arena_set.specs.Flat.{part}
 use Rattle.arena_set.proofs.CallerLemmas.{inside, flat_empty, regions_flat}
 use Rattle.py_heap.specs.Heap.{empty_heap}
-use Rattle.py_heap.specs.Kept.{ClassView, State, no_pools, lines_of, sites_of, tables_of, heap_of, IsKeptState}
-use Rattle.radix_map.specs.Map.{HasNone as NoArenaHas, IsFree}
-use Rattle.py_heap.proofs.Arenas.{IsSite, line_there, arena_at, site_at, sites_cover, flat_has}
-use Rattle.py_heap.proofs.Freeing.{has_same}
-use Rattle.py_heap.proofs.Returning.{in_arena_is}
+use Rattle.py_heap.specs.Kept.{ClassView, State, no_pools, lines_of, tables_of, heap_of, IsKeptState}
+use Rattle.py_heap.specs.Links.{addresses_of, class_of, numbered, pool_in, IsHeaded, AreLinked}
+use Rattle.py_heap.proofs.Arenas.{line_there, arena_at, flat_has}
 
 -- ---- where no block is in use
 
@@ -106,40 +104,24 @@ module _ (old new : SetView) (region : RegionView) (one : EndsOne old new region
 pub no_regions : (v : SetView) → HasNone v → regions_of v.arenas ≡ []
 no_regions v none = regions_flat 1 v.arenas ∙ flat_empty (λ n a. region_extent a.region ∷ []) 1 v.arenas (λ k lt. ap (part (λ n a. region_extent a.region ∷ []) (1 + k)) (none k))
 
--- ---- what a heap owns
-
-module _ (s : State) (k : IsKeptState s) (place : ℕ) where
-  pub owned : (m : Site) → Has m s.marks → ArenaHas place m → tally (covers place) (regions_of s.set.arenas) ≡ 1
-  owned m there has =
-      let one = in_arena_is place m has in let le = tally_has (in_arena place) m s.marks there in
-      let same = k.marked (in_arena place) in let c = sites_cover s.set place k.sound_set in let most = k.sound_set.apart place in omega arith
-
-  pub not_owned : NoArenaHas place s.marks → tally (covers place) (regions_of s.set.arenas) ≡ 1 → ⊥
-  not_owned none one =
-      let same = k.marked (in_arena place) in let c = sites_cover s.set place k.sound_set in
-      let z = tally_some (in_arena place) s.marks (omega arith) in
-      none z.0 z.1.0 (arena_has place z.0 z.1.1) where
-        arena_has : (p : ℕ) (a : Site) → 1 ≤ in_arena p a → ArenaHas p a
-        arena_has p a = elim (leb_tells a.base p) as (λ _. 1 ≤ cond (leb a.base p) (cond (leb (a.base + 1048576) p) 0 1) 0 → ArenaHas p a) [
-          | inl v ↦ rw v.0 (elim (leb_tells (a.base + 1048576) p) as (λ _. 1 ≤ cond (leb (a.base + 1048576) p) 0 1 → ArenaHas p a) [ inl w ↦ rw w.0 (λ le. absurd (omega arith)) | inr w ↦ λ le. (v.1, w.1) ])
-          | inr v ↦ rw v.0 (λ le. absurd (omega arith))
-        ]
-
--- a region that meets no region of the heap is not marked
-pub free_marks : (s : State) (k : IsKeptState s) (r : RegionView) → length r.cells ≡ 1048576 → MeetsNone (region_extent r) (regions_of s.set.arenas) → IsFree r.base s.marks
-free_marks s k r long apart address has m there mine =
-    let one = owned s k address m there mine in let zero = apart address (covers_in address (region_extent r) has.0 (let high = has.1 in omega arith)) in absurd (omega arith)
-
--- an arena that is marked is in the set
-pub marked_site : (s : State) (k : IsKeptState s) (m : Site) → Has m s.marks → IsSite s.set m
-marked_site s k m there = site_at s.set m (has_same m s.marks (sites_of s.set.arenas) k.marked there)
-
 -- ---- a new heap
 
 same_room : (n c : ℕ) → get_or (replicate n no_pools) c no_pools ≡ no_pools
 same_room zero c = refl
 same_room (suc n) zero = refl
 same_room (suc n) (suc c) = same_room n c
+
+none_numbered : (n : ℕ) → numbered [] n ≡ None
+none_numbered zero = refl
+none_numbered (suc n) = refl
+
+none_linked : AreLinked [] (replicate 32 no_pools)
+none_linked = record {
+  headed = λ c. subst IsHeaded (sym (same_room 32 c)) (record { first = refl; count = refl });
+  once = λ c p. subst (λ (v : ClassView). times p (addresses_of [] v.spots) ≤ 1) (sym (same_room 32 c)) (omega arith);
+  listed = λ c s h. absurd (subst (λ (v : ClassView). Has s v.spots) (same_room 32 c) h);
+  links = λ c s e. let none = ap (λ o. class_of (pool_in o s.slot)) (none_numbered s.arena) in absurd (cc);
+}
 
 pub new_heap : (s : State) (set_is : s.set ≡ empty_set) (classes : s.classes ≡ replicate 32 no_pools) (marks : s.marks ≡ []) → (s.taken ≡ 0) × (s.given ≡ 0) × (s.back ≡ 0) × (s.most ≡ 0) × (s.pooled ≡ 0) →
     IsKeptState s × (heap_of s ≡ empty_heap)
@@ -156,5 +138,6 @@ new_heap s set_is classes marks counts =
       lent = refl;
       marked = λ f. refl;
       full = λ c. ap (λ (v : ClassView). v.full) (same_room 32 c);
+      linked = none_linked;
     } in
     subst (λ t. IsKeptState t × (heap_of t ≡ empty_heap)) same (kept, refl)

@@ -1,77 +1,41 @@
 -- A block is freed.
-use Rattle.std.proofs.Common.{◌≡◌, ◌≢◌, ℕ, ◌+◌, ◌-◌, ◌<◌, ◌≤◌, ◌↔◌, IsTrue, Bool, true, false, inl, inr, cond, eqb, List, ◌∷◌, map, length, get_or, set, Some, None, refl, sym, ap, subst, ◌∙◌, arith}
-use Rattle.std.proofs.lemmas.Bool.Decides.{eqb_tells}
+use Rattle.std.proofs.Common.{◌≡◌, ◌≢◌, ℕ, ◌+◌, ◌-◌, ◌<◌, ◌≤◌, ◌↔◌, IsTrue, Bool, true, false, inl, inr, ◌∷◌, map, length, get_or, set, Option, IfSome, IsSome, Some, None, refl, sym, ap, subst, ◌∙◌, arith}
 use Rattle.std.proofs.lemmas.List.{map-set, length-set, get_or-set_same, get_or-set_other}
 use Rattle.raw_region.specs.Cells.{AllHome}
 use Rattle.raw_region.specs.Region.{RegionView, PieceView}
 use Rattle.extents.specs.Sums.{tally, Has, Removed, Replaced}
-use Rattle.extents.specs.Extent.{Extent, piece_extent, AreApart, region_extent}
+use Rattle.extents.specs.Extent.{Extent, covers, piece_extent, AreApart, region_extent}
 use Rattle.extents.proofs.CallerLemmas.{tally_has, tally_replaced, length_inserted}
 use Rattle.layout_model.specs.Sizes.{capacity}
-use Rattle.layout_model.proofs.CallerLemmas.{many, some_pools}
+use Rattle.layout_model.proofs.CallerLemmas.{many}
 use Rattle.layout_model.specs.Pool.{live_of, blocks_of, size_of, after_give}
 use Rattle.pool_core.proofs.CallerLemmas.{gave, block_inside}
 use Rattle.heap_model.specs.Tables.{with_one_less}
 use Rattle.heap_model.specs.Laws.{IsUnplaced}
-use Rattle.heap_model.specs.Ground.{StandsIn, AreStanding}
-use Rattle.heap_model.proofs.CallerLemmas.{tally_some, number_self, has_after, place_there, address_finds_pool, freed_full_is_unplaced, freed_one_is_unplaced}
+use Rattle.heap_model.specs.Ground.{AreStanding}
+use Rattle.heap_model.proofs.CallerLemmas.{spot_once as line_once, listed_pool, has_after, place_there, freed_full_is_unplaced, freed_one_is_unplaced}
 use Rattle.arena_set.specs.declared.pool_id.PoolId.{PoolId}
 use Rattle.arena_set.specs.Started.{Started}
-use Rattle.layout_model.specs.Geometry.{pool_offset, Site, slot_at, ArenaHas, PoolHas, PoolLine}
+use Rattle.layout_model.specs.Geometry.{pool_offset, PoolLine}
 use Rattle.arena_set.specs.Arena.{ArenaView, pool_loans, block_extent, piece_offset, after_mending}
 use Rattle.arena_set.specs.Set.{SetView, regions_of, loans_of, usable_of, dry_of, IsSet, region_in}
 use Rattle.arena_set.specs.Calls.{IsStarted, CanMend, Mends, GivesPool}
 use Rattle.arena_set.proofs.CallerLemmas.{PieceOf, piece_of}
 use Rattle.py_heap.specs.Heap.{AreHome, InPool}
-use Rattle.py_heap.specs.Kept.{ClassView, State, no_pools, spot, spots_of, lines_of, sites_of, tables_of, heap_of, class_at, full_in, SameSums, IsKeptState}
-use Rattle.py_heap.specs.Frees.{IsInPool, TakesBack}
-use Rattle.py_heap.proofs.Search.{get_or_any}
-use Rattle.py_heap.proofs.Arenas.{region_at, line_at, line_there, started_there, started_once, arena_at, loan_there, site_there, sites_cover, sites_same}
-use Rattle.py_heap.proofs.Lending.{pool_inside, pool_sound, full_tells, not_full_in, lists_at}
-
--- ---- lists with the same sums
-
-is_site : Site → Site → ℕ
-is_site s t = cond (eqb t.arena s.arena) (cond (eqb t.base s.base) 1 0) 0
-
-site_self : (s : Site) → is_site s s ≡ 1
-unfolding is_site
-site_self s = rw (number_self s.arena) (rw (number_self s.base) refl)
-
-site_same : (s t : Site) → 1 ≤ is_site s t → t ≡ s
-unfolding is_site
-site_same s t = elim (eqb_tells t.arena s.arena) as (λ _. 1 ≤ cond (eqb t.arena s.arena) (cond (eqb t.base s.base) 1 0) 0 → t ≡ s) [
-  | inl w ↦ rw w.0 (elim (eqb_tells t.base s.base) as (λ _. 1 ≤ cond (eqb t.base s.base) 1 0 → t ≡ s) [
-    | inl v ↦ λ h i. record { arena = w.1 i; base = v.1 i }
-    | inr v ↦ rw v.0 (λ h. absurd (omega arith))
-  ])
-  | inr w ↦ rw w.0 (λ h. absurd (omega arith))
-]
-
-pub has_same : (s : Site) (xs ys : List Site) → SameSums xs ys → Has s xs → Has s ys
-has_same s xs ys same h =
-    let one = site_self s in let le = tally_has (is_site s) s xs h in let sum = same (is_site s) in
-    let z = tally_some (is_site s) ys (omega arith) in
-    subst (λ t. Has t ys) (site_same s z.0 z.1.1) z.1.0
+use Rattle.py_heap.specs.Kept.{ClassView, State, no_pools, spot, spots_of, lines_of, sites_of, tables_of, heap_of, class_at, full_in, IsKeptState}
+use Rattle.py_heap.specs.Frees.{TakesBack}
+use Rattle.py_heap.proofs.Arenas.{region_at, line_at, started_there, started_once, loan_there, sites_same}
+use Rattle.py_heap.specs.Links.{pool_at, class_of, list_of, AreLinked}
+use Rattle.py_heap.specs.Relinks.{HasPoolOf, IsPoolOf, OnlyLinks, SameBody}
+use Rattle.py_heap.proofs.Ground.{pool_once, standing_of}
+use Rattle.py_heap.proofs.Linked.{class_is}
+use Rattle.py_heap.proofs.Relinking.{changed_linked, only_none}
+use Rattle.py_heap.proofs.Lending.{pool_sound, full_tells, not_full_in, lists_at}
 
 -- ---- arenas and pools by address
 
 pub standing : (s : State) → IsKeptState s → AreStanding (sites_of s.set.arenas) (tables_of s)
-standing s k = record {
-  apart = λ p. let c = sites_cover s.set p k.sound_set in let a = k.sound_set.apart p in omega arith;
-  pools = λ x h.
-      let l = line_there s.set x h in (
-        record { arena = l.id.arena; base = l.a.region.base },
-        (
-          site_there s.set l.id.arena l.a l.started.at,
-          subst (StandsIn (record { arena = l.id.arena; base = l.a.region.base })) l.is (record {
-            arena = refl;
-            slot = subst (λ n. l.id.pool < n) (arena_at s.set l.id.arena l.a k.sound_set l.started.at).count (pool_inside s.set l.id l.a l.s l.started);
-            place = refl;
-          }),
-        ),
-      );
-}
+standing s k = standing_of s.set (tables_of s) k.sound_set refl
 
 -- where a block stands in its pool
 pub record BlockAt (v : SetView) (e : Extent) : Type 0 where
@@ -94,31 +58,23 @@ block_at v e sound h =
     let place = ap (λ (x : Extent). x.place) p.is in let len = ap (λ (x : Extent). x.len) p.is in
     record { id = l.id; a = l.a; s = l.s; started = l.started; lent = l.lent; off = p.off; held = p.held; is = p.is; inside = (omega arith, omega arith); some = omega arith }
 
-module _ (s : State) (k : IsKeptState s) (piece : PieceView) (loan : Has (piece_extent piece) (loans_of s.set.arenas)) where
-  pub the_block : BlockAt s.set (piece_extent piece)
-  the_block = block_at s.set (piece_extent piece) k.sound_set loan
+-- the pool of a block has its address
+block_address : (v : SetView) (e : Extent) (b : BlockAt v e) → IsPoolOf v b.id e.place
+block_address v e b = record { a = b.a; s = b.s; started = b.started; has = (let i = b.inside in let one = b.some in (omega arith, omega arith)) }
 
-  abbrev x : PoolLine
-  x = line_at (the_block).id (the_block).a (the_block).s
+pub pool_of_block : (v : SetView) (e : Extent) → IsSet v → Has e (loans_of v.arenas) → HasPoolOf v e.place
+pool_of_block v e sound loan = let b = block_at v e sound loan in record { id = b.id; is = block_address v e b }
 
-  here : Has x (lines_of s.set.arenas)
-  here = started_there s.set (the_block).id (the_block).a (the_block).s (the_block).started
+-- and the pool that has its address is the block's
+pub mendable : (v : SetView) (piece : PieceView) (id : PoolId) → IsSet v → Has (piece_extent piece) (loans_of v.arenas) → IsPoolOf v id piece.place → CanMend v id piece
+mendable v piece id sound loan is =
+    let b = block_at v (piece_extent piece) sound loan in
+    subst (λ (q : PoolId). CanMend v q piece) (pool_once v b.id id piece.place sound (block_address v (piece_extent piece) b) is) (record { a = b.a; s = b.s; started = b.started; lent = b.lent })
 
-  pool_has : PoolHas x.place piece.place
-  pool_has = let i = (the_block).inside in let one = (the_block).some in (omega arith, omega arith)
-
-  -- the arena that has the address is the pool's
-  module _ (m : Site) (there : Has m s.marks) (has : ArenaHas piece.place m) where
-    found : StandsIn m x × (x.slot ≡ slot_at m.base piece.place)
-    found = address_finds_pool (sites_of s.set.arenas) (tables_of s) x m piece.place (standing s k) here pool_has (has_same m s.marks (sites_of s.set.arenas) k.marked there) has
-
-    pub in_pool : IsInPool m.base piece.place
-    in_pool = let f = (found).0 in let h = pool_has in let few = (some_pools m.base).1 in let low = f.slot in record { slot = x.slot; few = omega arith; low = subst (λ n. n ≤ piece.place) f.place h.0; high = subst (λ n. piece.place < n + 16384) f.place h.1 }
-
-    pub found_id : (id : PoolId) → id.arena ≡ m.arena → id.pool ≡ slot_at m.base piece.place → CanMend s.set id piece
-    found_id id arena pool =
-        let same : (the_block).id ≡ id = λ i. record { arena = ((found).0.arena ∙ sym arena) i; pool = ((found).1 ∙ sym pool) i } in
-        subst (λ (q : PoolId). CanMend s.set q piece) same (record { a = (the_block).a; s = (the_block).s; started = (the_block).started; lent = (the_block).lent })
+pub all_mendable : (v : SetView) (piece : PieceView) (o : Option PoolId) → IsSet v → (tally (covers piece.place) (regions_of v.arenas) ≡ 1 → Has (piece_extent piece) (loans_of v.arenas)) → (IsSome o → tally (covers piece.place) (regions_of v.arenas) ≡ 1)
+    → IfSome o (λ id. IsPoolOf v id piece.place) → IfSome o (λ id. CanMend v id piece)
+all_mendable v piece None sound loan own is = tt
+all_mendable v piece (Some id) sound loan own is = mendable v piece id sound (loan (own refl)) is
 
 -- ---- what a set takes back
 
@@ -193,7 +149,7 @@ module _ (old : State) (k : IsKeptState old) (piece : PieceView) (loan : Has (pi
   abbrev pool : PoolLine
   pool = line_at id mends.a mends.s
 
-  back : MendOf pool full empty old.set set1
+  pub back : MendOf pool full empty old.set set1
   back = mend_of old.set set1 id piece full empty k.sound_set can mends
 
   pool_here : Has pool (lines_of old.set.arenas)
@@ -206,9 +162,23 @@ module _ (old : State) (k : IsKeptState old) (piece : PieceView) (loan : Has (pi
   pub class_inside : pool.class < length old.classes
   class_inside = (lists_at old pool.class k.kept small).0
 
-  -- and what is read there is it
-  pub class_read : (c : ℕ) (v : ClassView) → c ≡ pool.class → v ≡ get_or old.classes c v → class_at old pool.class ≡ v
-  class_read c v is read = get_or_any old.classes pool.class no_pools v class_inside ∙ (ap (λ j. get_or old.classes j v) (sym is) ∙ sym read)
+  -- the lists are as before
+  pub mended_linked : AreLinked set1.arenas old.classes
+  mended_linked = changed_linked old.set set1 id mends.a mends.b mends.s (after_mending mends.s (piece_offset mends.a id.pool piece)) mends.started mends.change mends.arena refl refl refl old.classes k.linked
+
+  pub class_there : class_of (pool_at set1.arenas (spot id)) ≡ Some pool.class
+  class_there = class_is set1 id mends.b (after_mending mends.s (piece_offset mends.a id.pool piece)) mends.now
+
+  -- a full pool is in none of them
+  pub not_listed : full ≡ true → (c : ℕ) → Has (spot id) (list_of old.classes c) → ⊥
+  not_listed was_full c h =
+      let listed = k.linked.listed c (spot id) h in
+      let mine = class_is old.set id mends.a mends.s mends.started in
+      let class : pool.class ≡ c = (let e : Some pool.class ≡ Some c = sym mine ∙ listed in cc) in
+      let x = listed_pool (lines_of old.set.arenas) (map spots_of old.classes) old.taken k.kept.orderly pool.class (spot id)
+      (subst (Has (spot id)) (sym (lists_at old pool.class k.kept small).1) (subst (λ d. Has (spot id) (list_of old.classes d)) (sym class) h)) in
+      let same : x.0 ≡ pool = line_once (lines_of old.set.arenas) (map spots_of old.classes) old.taken k.kept.orderly x.0 pool x.1.0 pool_here x.1.1 in
+      x.1.3 (ap (λ (y : PoolLine). y.live) same ∙ (back).was_full.0 was_full)
 
   -- the piece lies in the pool
   pub piece_inside : InPool (piece_extent piece) pool.place
@@ -219,26 +189,35 @@ module _ (old : State) (k : IsKeptState old) (piece : PieceView) (loan : Has (pi
       let place = ap (λ (x : Extent). x.place) p.is in let len = ap (λ (x : Extent). x.len) p.is in
       (omega arith, omega arith)
 
+  -- behind its header
+  piece_body : (p : PieceOf mends.a id.pool mends.s (piece_extent piece)) → (48 ≤ p.off) × (p.off + length piece.bytes ≤ 16384)
+  piece_body p =
+      let g = gave mends.s.pool p.off (pool_sound old.set id mends.a mends.s k.sound_set mends.started) p.held in
+      let b = block_inside mends.s.pool.class p.off g.0.inside in
+      let len = ap (λ (x : Extent). x.len) p.is in (omega arith, omega arith)
+
   pooled_less : (n : ℕ) → n ≡ old.pooled - 1 → n ≡ length (loans_of set1.arenas)
   pooled_less n is = let l = k.lent in let i = length_inserted (piece_extent piece) (loans_of set1.arenas) (loans_of old.set.arenas) loans in omega arith
 
-  module _ (new : State) (set_is : new.set ≡ set1) (given_is : new.given ≡ old.given) (back_is : new.back ≡ old.back) (marks_are : new.marks ≡ old.marks) (pooled_is : new.pooled ≡ old.pooled - 1)
-      (full_is : (d : ℕ) → (class_at new d).full + full_in d pool ≡ (class_at old d).full + full_in d (with_one_less pool)) (unplaced : IsUnplaced pool (tables_of old) (tables_of new)) where
+  module _ (new : State) (only : OnlyLinks set1 new.set) (given_is : new.given ≡ old.given) (back_is : new.back ≡ old.back) (marks_are : new.marks ≡ old.marks) (pooled_is : new.pooled ≡ old.pooled - 1)
+      (full_is : (d : ℕ) → (class_at new d).full + full_in d pool ≡ (class_at old d).full + full_in d (with_one_less pool)) (unplaced : IsUnplaced pool (tables_of old) (tables_of new))
+      (linked : AreLinked new.set.arenas new.classes) where
     regions_are : regions_of new.set.arenas ≡ regions_of old.set.arenas
-    regions_are = ap (λ v. regions_of v.arenas) set_is ∙ regions
+    regions_are = only.regions ∙ regions
 
     stays_kept : IsKeptState new
     stays_kept = record {
       kept = unplaced.kept;
-      sound_set = subst IsSet (sym set_is) sound;
-      apart = subst (λ v. AreApart (loans_of v.arenas)) (sym set_is) apart;
-      numbered = given_is ∙ k.numbered ∙ sym (back).count ∙ ap (λ v. length v.arenas) (sym set_is);
+      sound_set = only.set;
+      apart = subst AreApart (sym only.loans) apart;
+      numbered = given_is ∙ k.numbered ∙ sym (back).count ∙ sym only.count;
       few = let e = given_is in let f = k.few in omega arith;
       out = let e = given_is in let b = back_is in let r = ap length regions_are in let o = k.out in omega arith;
-      lent = pooled_less new.pooled pooled_is ∙ ap (λ v. length (loans_of v.arenas)) (sym set_is);
-      marked = λ f. let m = k.marked f in ap (tally f) marks_are ∙ m ∙ ap (tally f) (sym (back).sites) ∙ ap (λ v. tally f (sites_of v.arenas)) (sym set_is);
+      lent = pooled_less new.pooled pooled_is ∙ ap length (sym only.loans);
+      marked = λ f. let m = k.marked f in ap (tally f) marks_are ∙ m ∙ ap (tally f) (sym (back).sites) ∙ ap (tally f) (sym only.sites);
       full = λ d. let t = tally_replaced (full_in d) pool (with_one_less pool) (lines_of old.set.arenas) (lines_of set1.arenas) (back).lines in let o = k.full d in let n = full_is d in
-          let e = ap (λ v. tally (full_in d) (lines_of v.arenas)) set_is in omega arith;
+          let e = ap (tally (full_in d)) only.lines in omega arith;
+      linked = linked;
     }
 
     home_again : AreHome piece (heap_of new)
@@ -247,12 +226,18 @@ module _ (old : State) (k : IsKeptState old) (piece : PieceView) (loan : Has (pi
         let place = ap (λ (e : Extent). e.place) p.is in
         let base = mends.change.base in
         let at = mends.now.at in
+        let body : SameBody (Some mends.b) (get_or new.set.arenas (id.arena - 1) None) = subst (λ o. SameBody o (get_or new.set.arenas (id.arena - 1) None)) at.there (only.bodies (id.arena - 1)) in
+        let lies = piece_body p in
         record {
           arena = id.arena - 1;
-          region = mends.b.region;
-          there = ap (λ (v : SetView). get_or (map region_in v.arenas) (id.arena - 1) None) set_is ∙ (region_at (id.arena - 1) set1.arenas ∙ ap region_in at.there);
-          inside = omega arith;
-          bytes = λ i low lt. ap (λ n. get_or mends.b.region.cells (piece.place - n + i) None) base ∙ mends.bytes i low lt;
+          region = body.0.region;
+          there = region_at (id.arena - 1) new.set.arenas ∙ ap region_in body.1.0;
+          inside = (let e = body.1.1 in omega arith);
+          bytes = λ i low lt.
+              let off : ℕ = (p.off + i) in
+              let e : pool_offset mends.b.region.base id.pool + off ≡ piece.place - mends.a.region.base + i = ap (λ n. pool_offset n id.pool + off) base ∙ omega arith in
+              let same = body.1.2 id.pool off (omega arith) (omega arith) in
+              ap (λ n. get_or body.0.region.cells n None) (let x = body.1.1 in let here : piece.place - body.0.region.base + i ≡ pool_offset mends.b.region.base id.pool + off = (let y = e in omega arith) in here) ∙ (same ∙ (ap (λ n. get_or mends.b.region.cells n None) e ∙ mends.bytes i low lt));
         }
 
     stays_back : TakesBack piece None (heap_of old) (heap_of new)
@@ -263,10 +248,10 @@ module _ (old : State) (k : IsKeptState old) (piece : PieceView) (loan : Has (pi
         was = unplaced.place;
         inside = piece_inside;
         layout = unplaced.layout;
-        is = inr (place_there (tables_of new) unplaced.kept.orderly (with_one_less pool) (subst (λ v. Has (with_one_less pool) (lines_of v.arenas)) (sym set_is) (has_after pool (with_one_less pool) (lines_of old.set.arenas) (lines_of set1.arenas) (back).lines)));
+        is = inr (place_there (tables_of new) unplaced.kept.orderly (with_one_less pool) (subst (Has (with_one_less pool)) (sym only.lines) (has_after pool (with_one_less pool) (lines_of old.set.arenas) (lines_of set1.arenas) (back).lines)));
         others = unplaced.others;
         regions = inl (back_is, regions_are);
-        back = subst (λ v. Removed (piece_extent piece) (loans_of old.set.arenas) (loans_of v.arenas)) (sym set_is) loans;
+        back = subst (Removed (piece_extent piece) (loans_of old.set.arenas)) (sym only.loans) loans;
         bytes = λ there. home_again;
       };
       regions = regions_are;
@@ -277,20 +262,20 @@ module _ (old : State) (k : IsKeptState old) (piece : PieceView) (loan : Has (pi
   full_counted was_full = let o = k.full pool.class in let le = tally_has (full_in pool.class) pool (lines_of old.set.arenas) pool_here in
       elim (full_tells pool.class pool) [ inl p ↦ let one = p.2 in omega arith | inr p ↦ absurd (p.0 refl ((back).was_full.0 was_full)) ]
 
-  pub reopened : (v : ClassView) → v.spots ≡ spot id ∷ (class_at old pool.class).spots → v.full + 1 ≡ (class_at old pool.class).full → full ≡ true →
-      let new = record old { set = set1; classes = set old.classes pool.class v; pooled = old.pooled - 1 } in IsKeptState new × TakesBack piece None (heap_of old) (heap_of new)
-  reopened v spots fulls was_full =
-      let new : State = record old { set = set1; classes = set old.classes pool.class v; pooled = old.pooled - 1 } in
+  pub reopened : (set2 : SetView) → OnlyLinks set1 set2 → (v : ClassView) → v.spots ≡ spot id ∷ (class_at old pool.class).spots → v.full + 1 ≡ (class_at old pool.class).full → AreLinked set2.arenas (set old.classes pool.class v) → full ≡ true →
+      let new = record old { set = set2; classes = set old.classes pool.class v; pooled = old.pooled - 1 } in IsKeptState new × TakesBack piece None (heap_of old) (heap_of new)
+  reopened set2 only v spots fulls linked was_full =
+      let new : State = record old { set = set2; classes = set old.classes pool.class v; pooled = old.pooled - 1 } in
       let all : pool.live ≡ capacity pool.class = (back).was_full.0 was_full in
       let unplaced = freed_full_is_unplaced pool (tables_of old) (tables_of new) k.kept (record {
         full = all;
-        started = (back).lines;
+        started = subst (Replaced pool (with_one_less pool) (lines_of old.set.arenas)) (sym only.lines) (back).lines;
         lists = map-set spots_of old.classes pool.class v ∙ ap (set (map spots_of old.classes) pool.class) (spots ∙ ap (λ l. spot id ∷ l) (sym (lists_at old pool.class k.kept small).1));
         taken = refl;
-        arenas = record { usable = same.0; dry = same.1; given = refl; back = refl; most = refl };
+        arenas = record { usable = only.usable ∙ same.0; dry = only.dry ∙ same.1; given = refl; back = refl; most = refl };
       }) in
       let counts : (d : ℕ) → (class_at new d).full + full_in d pool ≡ (class_at old d).full + full_in d (with_one_less pool) = λ d. class_less d v fulls all in
-      (stays_kept new refl refl refl refl refl counts unplaced, stays_back new refl refl refl refl refl counts unplaced) where
+      (stays_kept new only refl refl refl refl counts unplaced linked, stays_back new only refl refl refl refl counts unplaced linked) where
         class_less : (d : ℕ) (v : ClassView) → v.full + 1 ≡ (class_at old pool.class).full → pool.live ≡ capacity pool.class → (get_or (set old.classes pool.class v) d no_pools).full + full_in d pool ≡ (class_at old d).full + full_in d (with_one_less pool)
         class_less d v fulls all =
             let least = many pool.class small in
@@ -305,8 +290,8 @@ module _ (old : State) (k : IsKeptState old) (piece : PieceView) (loan : Has (pi
             ]
 
   -- it had a free block and keeps others in use
-  pub lessened : full ≡ false → empty ≡ false → let new = record old { set = set1; pooled = old.pooled - 1 } in IsKeptState new × TakesBack piece None (heap_of old) (heap_of new)
-  lessened half more =
+  pub lessened : AreLinked set1.arenas old.classes → full ≡ false → empty ≡ false → let new = record old { set = set1; pooled = old.pooled - 1 } in IsKeptState new × TakesBack piece None (heap_of old) (heap_of new)
+  lessened linked half more =
       let new : State = record old { set = set1; pooled = old.pooled - 1 } in
       let room : pool.live ≢ capacity pool.class = λ e. let t = (back).was_full.1 e in absurd (cc) in
       let others : pool.live ≢ 1 = λ e. let t = (back).now_empty.1 e in absurd (cc) in
@@ -321,4 +306,5 @@ module _ (old : State) (k : IsKeptState old) (piece : PieceView) (loan : Has (pi
       let low = (k.kept.orderly.pools pool pool_here).most in
       let less : (with_one_less pool).live ≢ capacity (with_one_less pool).class = λ e. let r = room in absurd (let s = (back).some in omega arith) in
       let counts : (d : ℕ) → (class_at new d).full + full_in d pool ≡ (class_at old d).full + full_in d (with_one_less pool) = λ d. let a = not_full_in d pool room in let b = not_full_in d (with_one_less pool) less in omega arith in
-      (stays_kept new refl refl refl refl refl counts unplaced, stays_back new refl refl refl refl refl counts unplaced)
+      let only = only_none set1 sound in
+      (stays_kept new only refl refl refl refl counts unplaced linked, stays_back new only refl refl refl refl counts unplaced linked)

@@ -1,10 +1,9 @@
 -- Room is made, and an arena comes.
-use Rattle.std.proofs.Common.{◌≡◌, ℕ, zero, suc, ◌+◌, ◌-◌, ◌<◌, ◌≤◌, ◌^◌, max, ◌&&◌, true, inl, inr, List, [], ◌∷◌, ◌++◌, map, length, get_or, set, Some, None, refl, sym, ap, subst, ◌∙◌, arith}
-use Rattle.std.proofs.lemmas.Bool.Decides.{eqb_tells}
-use Rattle.std.proofs.lemmas.List.{get_or-map, length-map, length-append, get_or-set_same, get_or-set_other, map-set}
+use Rattle.std.proofs.Common.{◌≡◌, ℕ, zero, suc, ◌+◌, ◌-◌, ◌<◌, ◌≤◌, ◌^◌, max, ◌&&◌, true, inl, inr, List, [], ◌∷◌, ◌++◌, map, length, get_or, Some, None, refl, sym, ap, subst, ◌∙◌, arith, ◌⊎◌, replicate, Option}
+use Rattle.std.proofs.lemmas.List.{get_or_append_left, get_or-map, length-map, length-append}
 use Rattle.mem_base.specs.declared.history.Grant.TheVariants.{NotAsked, Granted}
 use Rattle.raw_region.specs.Region.{RegionView, PieceView}
-use Rattle.extents.specs.Sums.{tally, Inserted}
+use Rattle.extents.specs.Sums.{tally, Has, Inserted}
 use Rattle.extents.specs.Extent.{region_extent, piece_extent, AreApart}
 use Rattle.extents.proofs.CallerLemmas.{tally-append, tally_inserted, length_inserted}
 use Rattle.layout_model.specs.Layout.{Layout}
@@ -18,11 +17,16 @@ use Rattle.std.specs.List.{range_with_len}
 use Rattle.links.specs.Nodes.{times}
 use Rattle.arena_set.specs.Flat.{AllSome}
 use Rattle.arena_set.specs.Set.{SetView, lines_of as lines_of_arenas, pools_of, regions_of, loans_of, usable_of, dry_entry, usable_times, IsSet, AreNamed, region_in}
+use Rattle.arena_set.proofs.CallerLemmas.{inside}
+use Rattle.heap_model.specs.Tables.{Spot}
 use Rattle.layout_model.specs.Geometry.{total_at, Site}
-use Rattle.arena_set.specs.Arena.{IsArena, new_arena as first_arena}
+use Rattle.arena_set.specs.Arena.{ArenaView, IsArena, new_arena as first_arena}
 use Rattle.arena_set.specs.Rule.{CameAlone}
 use Rattle.py_heap.specs.Heap.{BeginsIfThere, Serves}
-use Rattle.py_heap.specs.Kept.{ClassView, State, no_pools, spots_of, lines_of, sites_of, tables_of, heap_of, class_at, full_in, IsKeptState}
+use Rattle.py_heap.specs.Kept.{State, no_pools, spots_of, lines_of, sites_of, tables_of, heap_of, class_at, full_in, IsKeptState}
+use Rattle.py_heap.specs.Links.{numbered, pool_at, pool_in, place_in as place_in_arena, class_of, next_of, prev_of, list_of, AreLinked}
+use Rattle.py_heap.proofs.Linked.{pool_there}
+use Rattle.py_heap.proofs.Relisted.{still_linked}
 use Rattle.py_heap.specs.Steps.{OnlyRoom, Comes}
 use Rattle.py_heap.proofs.Arenas.{sites_more}
 use Rattle.py_heap.proofs.Lending.{lists_at}
@@ -43,7 +47,7 @@ module _ (old new : State) (r : OnlyRoom old new) where
     usable = lines_of_arenas (r.arenas i) (r.usable i);
     dry = None ∷ map dry_entry (r.arenas i);
     started = lines_of (r.arenas i);
-    lists = r.lists i;
+    lists = map spots_of (r.classes i);
     taken = r.taken i;
     given = r.given i;
     back = r.back i;
@@ -63,36 +67,20 @@ module _ (old new : State) (r : OnlyRoom old new) where
     out = let g = r.given in let b = r.back in let o = k.out in let e = ap (λ es. length (regions_of es)) r.arenas in omega arith;
     lent = r.pooled ∙ k.lent ∙ ap (λ es. length (loans_of es)) (sym r.arenas);
     marked = λ f. ap (tally f) r.marks ∙ k.marked f ∙ ap (λ es. tally f (sites_of es)) (sym r.arenas);
-    full = λ c. r.full c ∙ k.full c ∙ ap (λ es. tally (full_in c) (lines_of es)) (sym r.arenas);
+    full = λ c. ap (λ cs. (get_or cs c no_pools).full) r.classes ∙ k.full c ∙ ap (λ es. tally (full_in c) (lines_of es)) (sym r.arenas);
+    linked = subst (AreLinked new.set.arenas) (sym r.classes) (subst (λ es. AreLinked es old.classes) (sym r.arenas) k.linked);
   }
 
   -- a class without pools that have a free block stays so
-  pub room_none : IsKeptState old → (c : ℕ) → c < 32 → (class_at old c).spots ≡ [] → (class_at new c).spots ≡ []
-  room_none k c small none = sym (lists_at new c (room_kept k).kept small).1 ∙ (ap (λ l. get_or l c []) r.lists ∙ ((lists_at old c k.kept small).1 ∙ none))
-
--- a class has more room
-pub class_room : (s : State) (c : ℕ) (v : ClassView) → c < length s.classes → v.spots ≡ (class_at s c).spots → v.full ≡ (class_at s c).full → OnlyRoom s (record s { classes = set s.classes c v })
-class_room s c v lt spots fulls = record {
-  usable = refl;
-  arenas = refl;
-  lists = map-set spots_of s.classes c v ∙ (ap (set (map spots_of s.classes) c) (spots ∙ sym (get_or-map spots_of s.classes c no_pools [] lt)) ∙ set_same (map spots_of s.classes) c []);
-  full = λ d. elim (eqb_tells d c) [
-    | inl w ↦ ap (λ (z : ClassView). z.full) (ap (λ j. get_or (set s.classes c v) j no_pools) w.1 ∙ get_or-set_same s.classes c v no_pools lt) ∙ fulls ∙ ap (λ j. (class_at s j).full) (sym w.1)
-    | inr w ↦ ap (λ (z : ClassView). z.full) (get_or-set_other s.classes c d v no_pools w.1)
-  ];
-  marks = refl;
-  taken = refl;
-  given = refl;
-  back = refl;
-  most = refl;
-  pooled = refl;
-} where
-  set_same : {X : Type 0} (xs : List X) (i : ℕ) (d : X) → set xs i (get_or xs i d) ≡ xs
-  set_same [] i d = refl
-  set_same (x ∷ xs) zero d = refl
-  set_same (x ∷ xs) (suc i) d = ap (λ l. x ∷ l) (set_same xs i d)
+  pub room_none : (c : ℕ) → (class_at old c).spots ≡ [] → (class_at new c).spots ≡ []
+  room_none c none = ap (λ cs. (get_or cs c no_pools).spots) r.classes ∙ none
 
 -- ---- an arena
+
+none_there : {X : Type 0} (x : X) (n k : ℕ) → get_or (replicate n x) k x ≡ x
+none_there x zero k = refl
+none_there x (suc n) zero = refl
+none_there x (suc n) (suc k) = none_there x n k
 
 module _ (old : State) (k : IsKeptState old) (r : RegionView) (set1 : SetView) (m : List Site) (none : usable_of old.set ≡ []) (few : old.given + 1 < 2 ^ 32) (n base top total : ℕ) (number : n ≡ length old.set.arenas + 1)
     (base_is : base ≡ r.base) (top_is : top ≡ max old.most (old.given + 1 - old.back)) (total_is : total ≡ total_at base) (rule : CameAlone n (total_at r.base) old.set set1) (arenas : set1.arenas ≡ old.set.arenas ++ Some (first_arena r) ∷ [])
@@ -121,6 +109,35 @@ module _ (old : State) (k : IsKeptState old) (r : RegionView) (set1 : SetView) (
     most = top_is i;
   }
 
+  -- the new arena has no pool yet
+  more_arenas : (xs : List (Option ArenaView)) (n : ℕ) (z : Spot) (d : ℕ) → get_or (xs ++ Some (first_arena r) ∷ []) n None ≡ get_or xs n None ⊎ (class_of (pool_in (get_or (xs ++ Some (first_arena r) ∷ []) n None) z.slot) ≡ None)
+  more_arenas [] zero z d = inr (ap class_of (none_there None (total_at r.base) z.slot))
+  more_arenas [] (suc n) z d = inl refl
+  more_arenas (x ∷ xs) zero z d = inl refl
+  more_arenas (x ∷ xs) (suc n) z d = more_arenas xs n z d
+
+  arena_of : (z : Spot) (d : ℕ) → (numbered set1.arenas z.arena ≡ numbered old.set.arenas z.arena) ⊎ (class_of (pool_at set1.arenas z) ≡ None)
+  arena_of z d = elim (more_arenas (None ∷ old.set.arenas) z.arena z d) [
+    | inl e ↦ inl (ap (λ es. numbered es z.arena) arenas ∙ e)
+    | inr e ↦ inr (ap (λ es. class_of (pool_at es z)) arenas ∙ e)
+  ]
+
+  pub mid_linked : AreLinked set1.arenas old.classes
+  mid_linked = still_linked old.set.arenas set1.arenas old.classes k.linked
+      (λ d z h. ap (λ o. class_of (pool_in o z.slot)) (there d z h) ∙ k.linked.listed d z h)
+      (λ d z h. ap (λ o. place_in_arena o z.slot) (there d z h))
+      (λ d z e. elim (arena_of z d) [
+        | inl w ↦ inl (sym (ap (λ o. class_of (pool_in o z.slot)) w) ∙ e, ap (λ o. next_of (pool_in o z.slot)) w, ap (λ o. prev_of (pool_in o z.slot)) w, ap (λ o. place_in_arena o z.slot) w)
+        | inr w ↦ absurd (cc)
+      ]) where
+        there : (d : ℕ) (z : Spot) → Has z (list_of old.classes d) → numbered set1.arenas z.arena ≡ numbered old.set.arenas z.arena
+        there d z h =
+            let p = pool_there old.set z d (k.linked.listed d z h) in
+            let at = p.started.at in let some = at.some in let lt = inside old.set.arenas (z.arena - 1) p.a at.there in
+            let e : z.arena ≡ suc (z.arena - 1) = omega arith in
+            ap (λ es. numbered es z.arena) arenas ∙ (ap (λ n. get_or (None ∷ (old.set.arenas ++ Some (first_arena r) ∷ [])) n None) e ∙ (get_or_append_left old.set.arenas (Some (first_arena r) ∷ []) None (z.arena - 1) lt
+            ∙ ap (λ n. get_or (None ∷ old.set.arenas) n None) (sym e)))
+
   pub mid_kept : IsKeptState mid
   mid_kept = record {
     kept = record {
@@ -140,6 +157,7 @@ module _ (old : State) (k : IsKeptState old) (r : RegionView) (set1 : SetView) (
         let a = tally_inserted f (record { arena = old.given + 1; base = base }) old.marks m marks in let b = ap f same in let o = k.marked f in
         let e = ap (λ es. tally f (sites_of es)) arenas in let g = ap (tally f) (sites_more old.set.arenas (first_arena r)) in let h = tally-append f (sites_of old.set.arenas) (site ∷ []) in omega arith;
     full = λ c. k.full c ∙ ap (tally (full_in c)) (sym lines_are);
+    linked = mid_linked;
   }
 
   pub mid_comes : Comes total r old mid

@@ -1,7 +1,7 @@
 -- How many blocks of a heap lie in each of its pools, and how long they are.
 use Rattle.std.proofs.Common.{◌≡◌, ◌≢◌, ℕ, suc, ◌+◌, ◌-◌, ◌*◌, ◌%◌, ◌<◌, ◌≤◌, ◌⊎◌, ◌↔◌, Bool, IsTrue, inl, inr, cond, eqb, List, [], ◌∷◌, map, length, get_or, Option, Some, None, refl, sym, ap, subst, ◌∙◌, arith}
 use Rattle.std.proofs.lemmas.Bool.Decides.{eqb_tells, leb_tells}
-use Rattle.std.proofs.lemmas.List.{get_or-map}
+use Rattle.std.proofs.lemmas.List.{get_or-map, length-map}
 use Rattle.raw_region.specs.declared.maker.Maker.{Maker}
 use Rattle.extents.specs.Sums.{tally, Has}
 use Rattle.extents.specs.Extent.{Extent, region_extent}
@@ -13,16 +13,20 @@ use Rattle.layout_model.specs.Pool.{blocks_of, live_of, size_of, IsPool}
 use Rattle.layout_model.specs.Plain.{StandsFor}
 use Rattle.pool_core.proofs.CallerLemmas.{block_inside, gave}
 use Rattle.heap_model.specs.Kept.{has_number}
-use Rattle.heap_model.proofs.CallerLemmas.{line_of_pool, class_has, place_there, number_self, pools_do_not_meet}
+use Rattle.heap_model.proofs.CallerLemmas.{line_of_pool, class_has, place_there, number_self, pools_do_not_meet, used_here}
+use Rattle.heap_model.specs.View.{used_at}
 use Rattle.arena_set.specs.Started.{Started, plain_of}
 use Rattle.arena_set.specs.Flat.{AllSome, flat}
 use Rattle.arena_set.specs.Arena.{ArenaView, block_extent, pool_loans, arena_loans, IsArena, IsSound}
 use Rattle.arena_set.specs.Set.{SetView, pool_line, loans_of, IsSet, region_in}
 use Rattle.arena_set.proofs.CallerLemmas.{inside, all_at}
-use Rattle.py_heap.specs.Heap.{PoolInRegion, StaysInPool, PoolsHold, ArenasAreRegions, LoansHaveSizes, begins_in}
-use Rattle.py_heap.specs.Kept.{State, lines_of, sites_of, tables_of, heap_of, IsKeptState}
+use Rattle.py_heap.specs.Heap.{PoolInRegion, StaysInPool, PoolsHold, ArenasAreRegions, LoansHaveSizes, begins_in, list_places, next_in, place_or_0, prev_in}
+use Rattle.py_heap.specs.Kept.{State, lines_of, sites_of, tables_of, heap_of, IsKeptState, spots_of}
 use Rattle.py_heap.proofs.Arenas.{flat_has, region_at, line_at, line_there, started_there, arena_at, pool_ground}
-use Rattle.py_heap.proofs.Lending.{pool_inside}
+use Rattle.py_heap.proofs.Lending.{lists_at, pool_inside}
+use Rattle.heap_model.specs.Tables.{Spot}
+use Rattle.py_heap.specs.Links.{spot, addresses_of, list_of, next_of, place_of, prev_of}
+use Rattle.py_heap.proofs.Linked.{class_is as pool_class, id_at, place_is, pool_is, pool_there}
 use Rattle.py_heap.proofs.Freeing.{block_at, standing}
 
 -- ---- sums
@@ -101,6 +105,28 @@ lines_sum p v aligned s =
     flat_sums IsArena (begins_in p) (live_at p) (λ n a. arena_loans a) (λ n a. flat (λ k s. pool_line n a.region.base k s ∷ []) 0 a.pools) 1 v.arenas
     (λ i n a there at ar. arena_sum p n a aligned ar) s.arenas
 
+-- ---- the addresses of a class's list
+
+module _ (s : State) (k : IsKeptState s) (c : ℕ) where
+  -- a pool of the list begins where its number has its place
+  listed_place : (z : Spot) → Has z (list_of s.classes c) → place_or_0 (get_or (heap_of s).places (used_at (lines_of s.set.arenas) z).pool None) ≡ place_of s.set.arenas z
+  listed_place z h =
+      let p = pool_there s.set z c (k.linked.listed c z h) in
+      let x = line_at (id_at z) p.a p.x in
+      let here = started_there s.set (id_at z) p.a p.x p.started in
+      let used = used_here (lines_of s.set.arenas) (map spots_of s.classes) s.taken k.kept.orderly x here in
+      ap (λ (u : Used). place_or_0 (get_or (heap_of s).places u.pool None)) used ∙ (ap place_or_0 (place_there (tables_of s) k.kept.orderly x here) ∙ sym (place_is s.set (id_at z) p.a p.x p.started))
+
+  places_by : (zs : List Spot) → ((z : Spot) → Has z zs → Has z (list_of s.classes c)) → map (λ (u : Used). place_or_0 (get_or (heap_of s).places u.pool None)) (map (used_at (lines_of s.set.arenas)) zs) ≡ addresses_of s.set.arenas zs
+  places_by [] all = refl
+  places_by (z ∷ zs) all = λ i. listed_place z (all z (inl refl)) i ∷ places_by zs (λ y h. all y (inr h)) i
+
+  pub list_places_are : c < 32 → list_places (heap_of s) c ≡ addresses_of s.set.arenas (list_of s.classes c)
+  list_places_are small =
+      let at = lists_at s c k.kept small in let long = length-map s.classes spots_of in
+      ap (map (λ (u : Used). place_or_0 (get_or (heap_of s).places u.pool None))) (get_or-map (map (used_at (lines_of s.set.arenas))) (map spots_of s.classes) c [] [] (omega arith) ∙ ap (map (used_at (lines_of s.set.arenas))) at.1)
+      ∙ places_by (list_of s.classes c) (λ z h. h)
+
 module _ (s : State) (k : IsKeptState s) where
   -- just one pool begins there
   lines_once : (x : PoolLine) → Has x (lines_of s.set.arenas) → tally (live_at x.place) (lines_of s.set.arenas) ≡ x.live
@@ -137,6 +163,12 @@ module _ (s : State) (k : IsKeptState s) where
       let class_is : t.s.pool.class ≡ c = ap (λ (y : PoolLine). y.class) t.is ∙ l.class in
       let next : suc (t.id.arena - 1) ≡ t.id.arena = omega arith in
       let named : t.s.pool.arena ≡ t.id.arena = k.sound_set.named (t.id.arena - 1) t.a t.started.at.there t.id.pool t.s t.started.there ∙ omega arith in
+      let small : c < 32 = subst (λ d. d < 32) l.class (k.kept.orderly.pools l.x l.here).small in
+      let links = k.linked.links c (spot t.id) (pool_class s.set t.id t.a t.s t.started ∙ ap Some class_is) in
+      let at_place = place_is s.set t.id t.a t.s t.started in
+      let begun : place_of s.set.arenas (spot t.id) ≡ begins = at_place ∙ stands in
+      let read = pool_is s.set t.id t.a t.s t.started in
+      let list : addresses_of s.set.arenas (list_of s.classes c) ≡ list_places (heap_of s) c = sym (list_places_are s k c small) in
       let low : PoolInRegion begins (region_extent t.a.region) = subst (λ q. PoolInRegion q (region_extent t.a.region)) stands ground in
       record {
         region = t.a.region;
@@ -157,6 +189,8 @@ module _ (s : State) (k : IsKeptState s) where
         class = class_is;
         number = named ∙ arena;
         used = ap (λ (y : PoolLine). y.live) t.is ∙ ap (λ (u : Used). u.live) l.is;
+        next = ap next_of (sym read) ∙ (links.0 ∙ (λ i. next_in (begun i) (list i)));
+        prev = ap prev_of (sym read) ∙ (links.1 ∙ (λ i. prev_in 0 (begun i) (list i)));
         lent = λ o h.
             let e : Extent = block_extent t.a.region.base t.a.region.maker (pool_offset t.a.region.base t.id.pool) (size_of t.s.pool) o in
             let loan : Has e (loans_of s.set.arenas) = flat_has (λ n a. arena_loans a) 1 (t.id.arena - 1) t.id.arena s.set.arenas t.a e (omega arith) t.started.at.there

@@ -1,24 +1,23 @@
 -- What a heap reports, in the words of its layout.
-use Rattle.std.proofs.Common.{◌≡◌, ℕ, suc, ◌+◌, ◌-◌, ◌*◌, ◌<◌, ◌≤◌, inl, inr, true, false, cond, eqb, filter, List, [], ◌∷◌, ◌++◌, map, length, get_or, set, reverse, take, None, refl, sym, ap, subst, ◌∙◌, arith}
+use Rattle.std.proofs.Common.{◌≡◌, ℕ, ◌+◌, ◌*◌, ◌<◌, ◌≤◌, inl, inr, true, false, cond, eqb, filter, List, [], ◌∷◌, ◌++◌, map, length, get_or, set, Option, Some, None, refl, sym, ap, subst, ◌∙◌, arith}
 use Rattle.std.specs.List.{range_with_len}
 use Rattle.std.proofs.lemmas.Bool.Decides.{eqb_tells}
-use Rattle.std.proofs.lemmas.List.{append-nil, get_or-map, get_or-reverse, length-map, length-reverse, map-append, reverse-reverse, take_all}
+use Rattle.std.proofs.lemmas.List.{append_assoc, append-nil, get_or-map, length-append, length-map, map-append}
 use Rattle.std.proofs.lemmas.List.FromFn.{length-map-range_with_len, filter_of_map_range_with_len_more}
-use Rattle.std.proofs.Math.Seq.{take-suc}
 use Rattle.mem_base.specs.declared.reply.ArenaLine.{ArenaLine}
 use Rattle.mem_base.specs.declared.reply.UsedPool.{UsedPool}
 use Rattle.mem_base.specs.declared.reply.ClassLine.{ClassLine}
 use Rattle.extents.specs.Sums.{tally, Has}
-use Rattle.extents.proofs.CallerLemmas.{tally-map, tally-set, tally_zero, has_at, has-map, inserted_first}
+use Rattle.extents.proofs.CallerLemmas.{tally-map, tally-set, tally_zero, has_right, inserted_first}
 use Rattle.layout_model.specs.Sizes.{capacity}
 use Rattle.layout_model.specs.Layout.{Layout}
 use Rattle.layout_model.specs.Place.{pools_of_class}
 use Rattle.layout_model.specs.Pool.{live_of}
 use Rattle.layout_model.specs.Geometry.{PoolLine}
-use Rattle.heap_model.specs.Tables.{spot_of}
+use Rattle.heap_model.specs.Tables.{Spot}
 use Rattle.heap_model.specs.View.{used_at, full_pool, full_in as full_by, full_of}
 use Rattle.heap_model.specs.Kept.{has_number}
-use Rattle.heap_model.proofs.CallerLemmas.{used_here, listed_pool, number_self, numbered_at, numbered_goes}
+use Rattle.heap_model.proofs.CallerLemmas.{used_here, number_self, numbered_at, numbered_goes}
 use Rattle.arena_set.specs.declared.pool_id.PoolId.{PoolId}
 use Rattle.arena_set.specs.Started.{Started}
 use Rattle.arena_set.specs.Arena.{ArenaView}
@@ -26,51 +25,110 @@ use Rattle.arena_set.specs.Set.{SetView, usable_line, usable_of}
 use Rattle.arena_set.specs.Calls.{IsStarted, HasStarted}
 use Rattle.py_heap.specs.Kept.{State, spot, spots_of, lines_of, heap_of, class_at, full_in, IsKeptState}
 use Rattle.layout_model.specs.View.{arena_line, used_pool, is_full, class_line, has_a_pool}
-use Rattle.py_heap.proofs.Search.{has-reverse}
-use Rattle.py_heap.proofs.Arenas.{line_at, line_there, started_there}
+use Rattle.py_heap.specs.Heap.{first_in}
+use Rattle.py_heap.specs.Links.{addresses_of, class_of, first_id, list_of, next_of, pool_at}
+use Rattle.py_heap.specs.Relinks.{IsLink, LeadsTo}
+use Rattle.py_heap.proofs.Linked.{first_link, has_started, id_at, leads_first, next_word, pool_is}
+use Rattle.py_heap.proofs.Arenas.{line_at, started_there}
 use Rattle.py_heap.proofs.Lending.{lists_at}
 
 -- ---- pools with free blocks
 
--- what is reported of the pool
-abbrev pub reported : State → PoolId → UsedPool
-reported s p = used_pool (used_at (lines_of s.set.arenas) (spot p))
+-- what is reported of the pool at a spot
+abbrev pub reported_at : State → Spot → UsedPool
+reported_at s z = used_pool (used_at (lines_of s.set.arenas) z)
 
 module _ (s : State) (k : IsKeptState s) where
-  pub pool_line_is : (id : PoolId) (a : ArenaView) (st : Started) (live : ℕ) → IsStarted s.set id a st → live ≡ live_of st.pool → record { arena = id.arena; live = live } ≡ reported s id
+  pub pool_line_is : (id : PoolId) (a : ArenaView) (st : Started) (live : ℕ) → IsStarted s.set id a st → live ≡ live_of st.pool → record { arena = id.arena; live = live } ≡ reported_at s (spot id)
   pool_line_is id a st live started is =
       let u = used_here (lines_of s.set.arenas) (map spots_of s.classes) s.taken k.kept.orderly (line_at id a st) (started_there s.set id a st started) in
       (λ i. record { arena = id.arena; live = is i }) ∙ sym (ap used_pool u)
 
-  -- a pool of a class's list is started
-  pub listed_started : (c : ℕ) (small : c < 32) (pools : List PoolId) (i : ℕ) (p : PoolId) → (class_at s c).spots ≡ map spot (reverse pools) → i < length pools → p ≡ get_or pools i p → HasStarted s.set p
-  listed_started c small pools i p spots lt is =
-      let here : Has p pools = subst (λ q. Has q pools) (sym is) (has_at pools i p lt) in
-      let turned : Has p (reverse pools) = has-reverse p (reverse pools) (subst (Has p) (sym (reverse-reverse pools)) here) in
-      let listed : Has (spot p) (get_or (map spots_of s.classes) c []) = subst (Has (spot p)) (sym ((lists_at s c k.kept small).1 ∙ spots)) (has-map spot p (reverse pools) turned) in
-      let z = listed_pool (lines_of s.set.arenas) (map spots_of s.classes) s.taken k.kept.orderly c (spot p) listed in
-      let l = line_there s.set z.0 z.1.0 in
-      let same : l.id ≡ p = λ i. record { arena = ((ap spot_of l.is ∙ z.1.1) i).arena; pool = ((ap spot_of l.is ∙ z.1.1) i).slot } in
-      record { a = l.a; s = l.s; started = subst (λ (q : PoolId). IsStarted s.set q l.a l.s) same l.started }
-
-  -- all of them
-  pub pools_reported : (c : ℕ) (small : c < 32) (pools : List PoolId) → (class_at s c).spots ≡ map spot (reverse pools) → map (reported s) (take (length pools) (reverse pools)) ≡ map used_pool (pools_of_class (heap_of s).layout c)
-  pools_reported c small pools spots =
+  -- what is reported of a class's pools
+  pub pools_reported : (c : ℕ) (small : c < 32) → map (reported_at s) (list_of s.classes c) ≡ map used_pool (pools_of_class (heap_of s).layout c)
+  pools_reported c small =
       let at = lists_at s c k.kept small in let long = length-map s.classes spots_of in
-      let used : pools_of_class (heap_of s).layout c ≡ map (used_at (lines_of s.set.arenas)) (map spot (reverse pools)) =
-      get_or-map (map (used_at (lines_of s.set.arenas))) (map spots_of s.classes) c [] [] (omega arith) ∙ ap (map (used_at (lines_of s.set.arenas))) (at.1 ∙ spots) in
-      ap (map (reported s)) (take_all (length pools) (reverse pools) (let l = length-reverse pools in omega arith)) ∙ (map_thrice (reverse pools) ∙ ap (map used_pool) (sym used)) where
-        map_thrice : (ps : List PoolId) → map (reported s) ps ≡ map used_pool (map (used_at (lines_of s.set.arenas)) (map spot ps))
-        map_thrice [] = refl
-        map_thrice (p ∷ ps) = ap (λ l. reported s p ∷ l) (map_thrice ps)
+      let used : pools_of_class (heap_of s).layout c ≡ map (used_at (lines_of s.set.arenas)) (list_of s.classes c) =
+      get_or-map (map (used_at (lines_of s.set.arenas))) (map spots_of s.classes) c [] [] (omega arith) ∙ ap (map (used_at (lines_of s.set.arenas))) at.1 in
+      map_twice (list_of s.classes c) ∙ ap (map used_pool) (sym used) where
+        map_twice : (zs : List Spot) → map (reported_at s) zs ≡ map used_pool (map (used_at (lines_of s.set.arenas)) zs)
+        map_twice [] = refl
+        map_twice (z ∷ zs) = ap (λ l. reported_at s z ∷ l) (map_twice zs)
 
--- one more
-pub one_reported : (f : PoolId → UsedPool) (pools : List PoolId) (n : ℕ) (p : PoolId) → n < length pools → p ≡ get_or pools (length pools - 1 - n) p →
-    map f (take (n + 1) (reverse pools)) ≡ map f (take n (reverse pools)) ++ f p ∷ []
-one_reported f pools n p lt is =
-    let next : n + 1 ≡ suc n = omega arith in let long = length-reverse pools in
-    ap (λ m. map f (take m (reverse pools))) next ∙ (ap (map f) (take-suc (reverse pools) n p (omega arith)) ∙ (map-append f (take n (reverse pools)) (get_or (reverse pools) n p ∷ [])
-    ∙ ap (λ q. map f (take n (reverse pools)) ++ f q ∷ []) (get_or-reverse pools n p lt ∙ sym is)))
+-- ---- the walk along a list
+
+-- the first n of a list are reported, and the rest begins with the pool that is next
+pub record IsReported (s : State) (c n : ℕ) (used : List UsedPool) (next : Option PoolId) : Type 0 where
+  pub done : List Spot
+  pub rest : List Spot
+  pub all : list_of s.classes c ≡ done ++ rest
+  pub count : length done ≡ n
+  pub told : used ≡ map (reported_at s) done
+  pub then : next ≡ first_id rest
+
+module _ (s : State) (k : IsKeptState s) (c : ℕ) where
+  pub none_reported : IsReported s c 0 [] (first_id (list_of s.classes c))
+  none_reported = record { done = []; rest = list_of s.classes c; all = refl; count = refl; told = refl; then = refl }
+
+  module _ (n : ℕ) (used : List UsedPool) (id : PoolId) (r : IsReported s c n used (Some id)) where
+    behind : (rest : List Spot) → Some id ≡ first_id rest → (ss : List Spot) × (rest ≡ spot id ∷ ss)
+    behind [] e = absurd (cc)
+    behind (z ∷ ss) e = let same : id ≡ id_at z = cc in (ss, λ i. record { arena = (sym same i).arena; slot = (sym same i).pool } ∷ ss)
+
+    others : List Spot
+    others = (behind r.rest r.then).0
+
+    all_is : list_of s.classes c ≡ r.done ++ spot id ∷ others
+    unfolding others
+    all_is = r.all ∙ ap (λ ss. r.done ++ ss) (behind r.rest r.then).1
+
+    class_there : class_of (pool_at s.set.arenas (spot id)) ≡ Some c
+    class_there = k.linked.listed c (spot id) (subst (Has (spot id)) (sym all_is) (has_right (spot id) r.done (spot id ∷ others) (inl refl)))
+
+    pub next_started : HasStarted s.set id
+    next_started = has_started s.set (spot id) c k.sound_set class_there
+
+    word : next_of (pool_at s.set.arenas (spot id)) ≡ first_in (addresses_of s.set.arenas others)
+    word = next_word s.set s.classes k.sound_set k.linked c r.done others (spot id) all_is
+
+    in_others : (z : Spot) → Has z others → class_of (pool_at s.set.arenas z) ≡ Some c
+    in_others z h = k.linked.listed c z (subst (Has z) (sym all_is) (has_right z r.done (spot id ∷ others) (inr h)))
+
+    module _ (link : ℕ) (is : (a : ArenaView) (x : Started) → IsStarted s.set id a x → link ≡ x.next) where
+      link_is : link ≡ first_in (addresses_of s.set.arenas others)
+      link_is = let h = next_started in is h.a h.s h.started ∙ (ap next_of (sym (pool_is s.set id h.a h.s h.started)) ∙ word)
+
+      pub link_there : IsLink s.set link
+      link_there = first_link s.set others link c k.sound_set in_others link_is
+
+      pub one_reported : (line : UsedPool) (next : Option PoolId) → line ≡ reported_at s (spot id) → LeadsTo s.set link next → IsReported s c (n + 1) (used ++ line ∷ []) next
+      one_reported line next is_line leads = record {
+        done = r.done ++ spot id ∷ [];
+        rest = others;
+        all = all_is ∙ sym (append_assoc r.done (spot id ∷ []) others);
+        count = length-append r.done (spot id ∷ []) ∙ ap (λ m. m + 1) r.count;
+        told = (λ i. r.told i ++ is_line i ∷ []) ∙ sym (map-append (reported_at s) r.done (spot id ∷ []));
+        then = leads_first s.set c k.sound_set next others in_others link link_is leads;
+      }
+
+  -- all of them are
+  pub all_reported : (small : c < 32) (used : List UsedPool) (next : Option PoolId) → IsReported s c (class_at s c).count used next → used ≡ map used_pool (pools_of_class (heap_of s).layout c)
+  all_reported small used next r =
+      let h = (k.linked.headed c).count in let e = ap length r.all in let a = length-append r.done r.rest in let n = r.count in
+      let whole : list_of s.classes c ≡ r.done = r.all ∙ ended r.rest (omega arith) in
+      r.told ∙ (ap (map (reported_at s)) (sym whole) ∙ pools_reported s k c small) where
+        ended : (ss : List Spot) → length ss ≡ 0 → r.done ++ ss ≡ r.done
+        ended [] z = append-nil r.done
+        ended (x ∷ ss) z = absurd (omega arith)
+
+  -- before that there is a next one
+  pub not_ended : (n : ℕ) (used : List UsedPool) → n < (class_at s c).count → IsReported s c n used None → ⊥
+  not_ended n used lt r =
+      let h = (k.linked.headed c).count in let e = ap length r.all in let a = length-append r.done r.rest in let n = r.count in
+      let z = ended r.rest r.then in omega arith where
+        ended : (ss : List Spot) → None ≡ first_id ss → length ss ≡ 0
+        ended [] q = refl
+        ended (x ∷ ss) q = absurd (cc)
 
 -- ---- full pools
 

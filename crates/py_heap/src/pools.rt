@@ -12,7 +12,7 @@ ghost use Rattle.arena_set.specs.Set.{loans_of, regions_of, usable_of, IsSet};
 ghost use Rattle.arena_set.specs.Calls.{AllIdle};
 ghost use Rattle.py_heap.specs.Heap.{empty_heap, Serves};
 ghost use Rattle.py_heap.specs.Kept.{class_at, heap_of, no_pools, IsKeptState};
-ghost use Rattle.py_heap.specs.Steps.{CanCome, Comes, HasRoomFor, HasRoomForArena, IsFailed, IsServed, OnlyRoom};
+ghost use Rattle.py_heap.specs.Steps.{CanCome, Comes, HasRoomForArena, IsFailed, IsServed, OnlyRoom};
 
 use crate::HeapGot;
 use crate::classes::ClassPools;
@@ -56,11 +56,11 @@ fn pool_count(base: u64) -> u8
 
 // Classes without pools.
 fn no_classes(alloc: Global) -> Result<Vec<ClassPools>, AllocError>
-    ensures { IfOk result (λ v. v.items ≡ replicate 32 no_pools) }
+    ensures { IfOk result (λ v. v.items ≡ replicate 32 (record { first = None; count = 0; full = 0 })) }
 {
     let mut classes = Vec::with_capacity(alloc, CLASSES)?;
     for _class in 0..CLASSES {
-        classes.push(ClassPools::new(alloc))?;
+        classes.push(ClassPools::new())?;
     }
     Ok(classes)
 }
@@ -108,11 +108,15 @@ impl Pools {
         ensures none { IfNone result ((self.new ≡ self.old) × ((class_at (state_of self.old) class).spots ≡ [])) }
         ensures some { IfSome result (λ piece. IsKeptState (state_of self.new) × Serves class NotAsked (Some piece) (heap_of (state_of self.old)) (heap_of (state_of self.new)) × (regions_of self.new.set.arenas ≡ regions_of self.old.set.arenas)) }
     {
-        let pool = self.classes[class as usize].first()?;
+        let pool = match self.classes[class as usize].first {
+            Some(pool) => pool,
+            None => return None,
+        };
         let Lent { piece, now_full } = self.set.lend(pool);
         self.pooled += 1;
         if now_full {
-            self.classes[class as usize].fill_first();
+            self.unlink(class, pool);
+            self.classes[class as usize].more_full();
         }
         Some(piece)
     }
@@ -122,7 +126,6 @@ impl Pools {
         requires class { class < 32 }
         requires kept { IsKeptState (state_of self.old) }
         requires none { (class_at (state_of self.old) class).spots ≡ [] }
-        requires room { HasRoomFor class (state_of self.old) }
         requires count { self.old.taken < 2 ^ 63 }
         ensures dry { IsNone result ↔ (usable_of self.old.set ≡ []) }
         ensures left { IfNone result (self.new ≡ self.old) }
@@ -133,19 +136,8 @@ impl Pools {
         self.taken += 1;
         let Lent { piece, now_full: _ } = self.set.lend(pool);
         self.pooled += 1;
-        self.classes[class as usize].put_first(pool);
+        self.put_first(class, pool);
         Some(piece)
-    }
-
-    // Room for one more pool of the class.
-    fn reserve(&mut self, class: u8) -> Result<(), AllocError>
-        requires class { class < 32 }
-        requires kept { IsKeptState (state_of self.old) }
-        ensures same { OnlyRoom (state_of self.old) (state_of self.new) }
-        ensures room { OnOk result (HasRoomFor class (state_of self.new)) }
-        ensures set { self.new.set ≡ self.old.set }
-    {
-        self.classes[class as usize].reserve_one()
     }
 
     // Room for one more arena.
@@ -154,7 +146,7 @@ impl Pools {
         requires kept { IsKeptState (state_of self.old) }
         ensures same { OnlyRoom (state_of self.old) (state_of self.new) }
         ensures room { OnOk result (HasRoomForArena (state_of self.new)) }
-        ensures classes { self.new.classes ≡ self.old.classes }
+        ensures usable { usable_of self.new.set ≡ usable_of self.old.set }
     {
         self.set.reserve_one()
     }
@@ -193,7 +185,6 @@ impl Pools {
         requires kept { IsKeptState (state_of self.old) }
         requires none { (class_at (state_of self.old) class).spots ≡ [] }
         requires dry { usable_of self.old.set ≡ [] }
-        requires room { HasRoomFor class (state_of self.old) }
         requires arena { HasRoomForArena (state_of self.old) }
         requires few { self.old.given + 1 < 2 ^ 32 }
         requires count { self.old.taken < 2 ^ 63 }
@@ -238,7 +229,6 @@ impl Pools {
         requires kept { IsKeptState (state_of self.old) }
         requires none { (class_at (state_of self.old) class).spots ≡ [] }
         requires dry { usable_of self.old.set ≡ [] }
-        requires room { HasRoomFor class (state_of self.old) }
         requires few { self.old.given + 1 < 2 ^ 32 }
         requires count { self.old.taken < 2 ^ 63 }
         requires asked { (A.seen arenas.old).asked < 2 ^ 63 }
@@ -268,7 +258,6 @@ impl Pools {
         ensures served { IfOk result (λ got. IsServed class got.grant got.piece (heap_of (state_of self.old)) (heap_of (state_of self.new)) (A.seen arenas.old) (A.seen arenas.new)) }
         ensures failed { OnErr result (IsFailed (heap_of (state_of self.old)) (heap_of (state_of self.new)) (A.seen arenas.old) (A.seen arenas.new)) }
     {
-        self.reserve(class)?;
         match self.lend_new(class) {
             Some(piece) => Ok(HeapGot {
                 piece: Some(piece),
