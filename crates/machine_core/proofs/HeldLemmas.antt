@@ -7,9 +7,7 @@ use Rattle.std.proofs.lemmas.Int.{to_z-of_z}
 use Rattle.mem_base.specs.Name.{Name}
 use Rattle.mem_base.specs.Offset.{IsOffset}
 use Rattle.mem_base.specs.Texts.{IsDistinct}
-use Rattle.mem_base.specs.declared.history.Ask.{Ask}
 use Rattle.mem_base.specs.declared.history.Ask.TheVariants as ask
-use Rattle.mem_base.specs.declared.history.Grant.{Grant}
 use Rattle.mem_base.specs.declared.history.Grant.TheVariants as grant
 use Rattle.mem_base.specs.declared.reply.Fault.{Fault}
 use Rattle.mem_base.specs.declared.reply.Reply.{Reply}

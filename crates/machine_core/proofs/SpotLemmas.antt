@@ -15,6 +15,7 @@ use Rattle.machine_core.specs.Spots.{living_in}
 use Rattle.machine_core.specs.Stands.{Stands}
 use Rattle.machine_core.specs.View.{MachineView}
 use Rattle.machine_core.specs.declared.held.Held.{Held as Holding}
+use Rattle.machine_core.specs.declared.progress.Progress.{Progress}
 use Rattle.machine_core.proofs.NameLemmas.{name_holds}
 
 -- spots of the same blocks, where a number's block is told otherwise
@@ -47,7 +48,7 @@ same_spots a b spots many pieces regions same are = record {
 abbrev pub view_of : Trace → List Entry → List ℕ → Holding → MachineView
 view_of trace es picks now = record { trace = trace; entries = es; picks = picks; arenas = now.store.arenas; raws = now.store.raws; pieces = now.store.pieces }
 
-pub spots_are : (picks : List ℕ) (trace : Trace) (es : List Entry) (now : Holding) (done : List ℕ) (faulted : _) → Stands trace es now done faulted → (spots : List Spot) → AreSpots (living now.store) spots → AreSpots (living_in (view_of trace es picks now)) spots
-spots_are picks trace es now done faulted stands spots are =
+pub spots_are : (picks : List ℕ) (trace : Trace) (es : List Entry) (now : Holding) (progress : Progress) (faulted : _) → Stands trace es now progress faulted → (spots : List Spot) → AreSpots (living now.store) spots → AreSpots (living_in (view_of trace es picks now)) spots
+spots_are picks trace es now progress faulted stands spots are =
     same_spots (living now.store) (living_in (view_of trace es picks now)) spots (sym stands.held.blocks.size) refl refl
     (λ name lt. name_holds trace.texts now.store.blocks (last_state (plain trace).tracks es).held.blocks name stands.held.blocks lt) are

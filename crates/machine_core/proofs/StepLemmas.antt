@@ -1,5 +1,5 @@
 -- One event more: the state, and that the history stays legal.
-use Rattle.std.proofs.Common.{◌≡◌, ℕ, zero, suc, ◌+◌, ◌-◌, ◌^◌, ◌<◌, ◌≤◌, Bool, true, false, cond, List, [], ◌∷◌, ◌++◌, length, get_or, slice_get, set, map, Option, Some, None, refl, sym, ap, subst, ◌∙◌, arith, length-set, length-append, replicate}
+use Rattle.std.proofs.Common.{◌≡◌, ℕ, zero, suc, ◌+◌, ◌-◌, ◌^◌, ◌<◌, ◌≤◌, Bool, true, false, cond, List, [], ◌∷◌, ◌++◌, length, get_or, slice_get, set, map, Option, Some, None, refl, sym, ap, subst, ◌∙◌, arith, length-append, replicate}
 use Rattle.std.specs.Prelude.{slice_index, IfSome, IfNone, sum_by}
 use Rattle.std.specs.Option.{option_map, option_and_then}
 use Rattle.std.proofs.lemmas.Option.{slice_get_within, slice_get-map, slice_get-get_or, slice_get_past}
@@ -33,10 +33,12 @@ use Rattle.sources.specs.Holder.{Answered}
 use Rattle.block_store.specs.Store.{StoreView, empty_store}
 use Rattle.machine_core.specs.Acts.{Acts, Asks, Done}
 use Rattle.machine_core.specs.Held.{StandsFor}
+use Rattle.machine_core.specs.Progress.{IsProgress}
 use Rattle.machine_core.specs.Ready.{is_ready_now}
 use Rattle.machine_core.specs.Stands.{Stands}
 use Rattle.machine_core.specs.View.{Requests}
 use Rattle.machine_core.specs.declared.held.Held.{Held as Holding}
+use Rattle.machine_core.specs.declared.progress.Progress.{Progress}
 use Rattle.machine_core.proofs.CallerLemmas.{action_is}
 
 some_of : {A B : Type 0} (f : A → Option B) (o : Option A) (b : B) → option_and_then f o ≡ Some b → (a : A) × (o ≡ Some a)
@@ -74,15 +76,18 @@ module _ (texts : List Name) (ts : List PlainTrack) (t : ℕ) (s : State) (r : H
   settled_fault false = sym sound
 
 -- what is known before an event: the operation that comes next
-module _ (trace : Trace) (es : List Entry) (old : Holding) (done : List ℕ) (faulted : Bool) (t at : ℕ) (op : Op)
-    (stands : Stands trace es old done faulted) (here : at ≡ get_or done t at) (is_op : op_at trace.tracks t at ≡ Some op) where
+module _ (trace : Trace) (es : List Entry) (old : Holding) (progress : Progress) (faulted : Bool) (t at : ℕ) (op : Op)
+    (stands : Stands trace es old progress faulted) (here : at ≡ get_or progress.done.items t at) (is_op : op_at trace.tracks t at ≡ Some op) where
   abbrev now : State
   now = last_state (tracks trace) es
+
+  abbrev done : List ℕ
+  done = progress.done.items
 
   pub within : t < length done
   within =
       let there = some_of (λ (track : Track). slice_get track.ops at) (slice_get trace.tracks t) op is_op in
-      omega (arith, slice_get_within trace.tracks t there.0 there.1, stands.tracks)
+      omega (arith, slice_get_within trace.tracks t there.0 there.1, stands.progress_is.tracks)
 
   pub here_is : at ≡ slice_index done t
   here_is =
@@ -141,7 +146,8 @@ module _ (trace : Trace) (es : List Entry) (old : Holding) (done : List ℕ) (fa
 
       module _ (fault : Bool) (fell : (texts : List Name) → fault ≡ is_fault (plain_reply texts reply))
           (owner' : Option ℕ) (owned : owner' ≡ cond fault new.owner (let_go (tracks trace) t (slice_index done t + 1) new.owner))
-          (done' : List ℕ) (did_one : done' ≡ cond fault done (set done t (slice_index done t + 1))) where
+          (progress' : Progress) (did_one : progress'.done.items ≡ cond fault done (set done t (slice_index done t + 1)))
+          (is : IsProgress trace progress') where
         its_fault : fault ≡ is_fault turn.1
         its_fault = fell trace.texts ∙ ap is_fault did.answer
 
@@ -149,16 +155,12 @@ module _ (trace : Trace) (es : List Entry) (old : Holding) (done : List ℕ) (fa
         after_is : last_state (tracks trace) (es ++ e ∷ []) ≡ settled trace.texts (tracks trace) t now turn done stands.done_is no_fault fault
         after_is = then_is ∙ ap (settled trace.texts (tracks trace) t now turn done stands.done_is no_fault) (sym its_fault)
 
-        length_kept : (b : Bool) (n : ℕ) → length (cond b done (set done t n)) ≡ length done
-        length_kept true n = refl
-        length_kept false n = length-set done t n
-
-        pub stands_then : Stands trace (es ++ e ∷ []) (record { store = new.store; owner = owner' }) done' fault
+        pub stands_then : Stands trace (es ++ e ∷ []) (record { store = new.store; owner = owner' }) progress' fault
         stands_then = record {
           legal = legal_push (tracks trace) (opening (tracks trace)) es e stands.legal is_next;
           table = stands.table;
           known = stands.known;
-          tracks = ap length did_one ∙ length_kept fault (slice_index done t + 1) ∙ stands.tracks;
+          progress_is = is;
           held = subst (λ (s : State). StandsFor trace.texts (record { store = new.store; owner = owner' }) s.held) (sym after_is)
               (settled_held trace.texts (tracks trace) t now turn done stands.done_is no_fault fault new owner'
               (subst (λ (b : Bool). StandsFor trace.texts new (cond b now.held turn.0)) (sym its_fault) did.held) owned);
@@ -185,15 +187,15 @@ no_sum f none zero = refl
 no_sum f none (suc n) = omega (arith, none, no_sum f none n, sum_by-cons f none_held (replicate n none_held))
 
 -- nothing is held, and nothing was done
-pub opening_stands : (trace : Trace) (es : List Entry) (s : StoreView) (count : ℕ) (done : List ℕ) → IsTable trace.texts → IsKnownTrace trace → es ≡ [] → s ≡ empty_store count → count ≡ length trace.texts
-    → done ≡ replicate {A = ℕ} (length trace.tracks) 0 → Stands trace es (record { store = s; owner = None }) done false
-opening_stands trace es s count done table known empty opened many zeros =
-    subst (λ (x : List Entry). Stands trace x (record { store = s; owner = None }) done false) (sym empty)
-    (subst (λ (v : StoreView). Stands trace [] (record { store = v; owner = None }) done false) (sym (opened ∙ ap empty_store many)) (record {
+pub opening_stands : (trace : Trace) (es : List Entry) (s : StoreView) (count : ℕ) (progress : Progress) → IsTable trace.texts → IsKnownTrace trace → es ≡ [] → s ≡ empty_store count → count ≡ length trace.texts
+    → progress.done.items ≡ replicate {A = ℕ} (length trace.tracks) 0 → IsProgress trace progress → Stands trace es (record { store = s; owner = None }) progress false
+opening_stands trace es s count progress table known empty opened many zeros is =
+    subst (λ (x : List Entry). Stands trace x (record { store = s; owner = None }) progress false) (sym empty)
+    (subst (λ (v : StoreView). Stands trace [] (record { store = v; owner = None }) progress false) (sym (opened ∙ ap empty_store many)) (record {
       legal = tt;
       table = table;
       known = known;
-      tracks = ap length zeros ∙ length-replicate (length trace.tracks) 0;
+      progress_is = is;
       held = record {
         blocks = record {
           size = length-replicate (length trace.texts) none_held;
@@ -217,9 +219,9 @@ none_past trace owner t at past =
     (slice_get-map (track_of trace.texts) trace.tracks t ∙ ap (option_map (track_of trace.texts)) (slice_get_past trace.tracks t past))
 
 -- the fields tell who is ready
-pub ready_is : (trace : Trace) (es : List Entry) (now : Holding) (done : List ℕ) (faulted : Bool) → Stands trace es now done faulted → (t : ℕ)
-    → is_ready_now trace now.owner done t ≡ is_ready (tracks trace) (last_state (tracks trace) es) t
-ready_is trace es old done faulted stands t = λ i. may_do (stands.held.owner i) t (action_after (tracks trace) t (slice_index (stands.done_is i) t))
+pub ready_is : (trace : Trace) (es : List Entry) (now : Holding) (progress : Progress) (faulted : Bool) → Stands trace es now progress faulted → (t : ℕ)
+    → is_ready_now trace now.owner progress.done.items t ≡ is_ready (tracks trace) (last_state (tracks trace) es) t
+ready_is trace es old progress faulted stands t = λ i. may_do (stands.held.owner i) t (action_after (tracks trace) t (slice_index (stands.done_is i) t))
 
 pub some_weaker : {A : Type 0} (o : Option A) (P Q : A → Type 0) → ((a : A) → P a → Q a) → IfSome o P → IfSome o Q
 some_weaker None P Q f h = tt
@@ -249,8 +251,8 @@ op_counts texts (t ∷ ts) =
     omega (arith, op_counts texts ts, sum_by-cons (λ (x : PlainTrack). length x.actions) (track_of texts t) (tracks_of texts ts), sum_by-cons (λ (x : Track). length x.ops) t ts, length-map t.ops (action_of texts))
 
 -- few enough arenas were granted and pools taken to number one more
-pub few_taken : (trace : Trace) (es : List Entry) (now : Holding) (done : List ℕ) (faulted : Bool) → Stands trace es now done faulted → (now.store.layout.given + 1 < 2 ^ 32) × (length now.store.layout.full < 2 ^ 63)
-few_taken trace es old done faulted stands =
+pub few_taken : (trace : Trace) (es : List Entry) (now : Holding) (progress : Progress) (faulted : Bool) → Stands trace es now progress faulted → (now.store.layout.given + 1 < 2 ^ 32) × (length now.store.layout.full < 2 ^ 63)
+few_taken trace es old progress faulted stands =
     let few = few_taken_in (tracks trace) es in
     let short = legal_short (tracks trace) es stands.legal in
     let given : old.store.layout.given ≡ (last_state (tracks trace) es).held.layout.given = ap (λ (l : Layout). l.given) stands.held.layout in

@@ -12,15 +12,16 @@ use Rattle.event_model.specs.History.{last_state, totals_of}
 use Rattle.block_store.specs.Store.{counts_in, live_in, pooled_in, size_in}
 use Rattle.machine_core.specs.Stands.{Stands}
 use Rattle.machine_core.specs.declared.held.Held.{Held as Holding}
+use Rattle.machine_core.specs.declared.progress.Progress.{Progress}
 
 count_is : (bs : Blocks) → sum_by (λ b. live_in (Some b.1)) bs ≡ length bs
 count_is [] = refl
 count_is (b ∷ bs) = omega (arith, count_is bs, sum_by-cons (λ (x : Name × Block). live_in (Some x.1)) b bs)
 
-pub totals_are : (trace : Trace) (es : List Entry) (now : Holding) (done : List ℕ) (faulted : Bool) → Stands trace es now done faulted
+pub totals_are : (trace : Trace) (es : List Entry) (now : Holding) (progress : Progress) (faulted : Bool) → Stands trace es now progress faulted
     → (events : ℕ) → events ≡ length es → (blocks bytes : ℕ) → blocks ≡ sum_by live_in now.store.blocks → bytes ≡ sum_by size_in now.store.blocks → (c : Counts) → c ≡ counts_in now.store
     → record { events = events; owner = now.owner; blocks = blocks; bytes = bytes; counts = c; traced = 0; peak = 0 } ≡ totals_of (plain trace).tracks es
-totals_are trace es now done faulted stands events many blocks bytes live sized c counted =
+totals_are trace es now progress faulted stands events many blocks bytes live sized c counted =
     let h = (last_state (plain trace).tracks es).held in
     let laid : now.store.layout ≡ h.layout = stands.held.layout in
     λ i. record {

@@ -7,7 +7,7 @@
 //!     definitions                                   machine
 //!     held     blocks by name, layout    <------    held     store: a slot for each name's number
 //!              owner of the lock                             owner of the lock
-//!     done     operations done by track  <------    done
+//!     done     operations done by track  <------    progress done, and the tracks with operations left
 //!     faulted  whether a fault has come  <------    faulted
 //!     history  the events so far         <------    history
 //! ```
@@ -23,6 +23,7 @@
 mod held;
 mod machine;
 mod picks;
+mod progress;
 mod schedule;
 
 pub use block_store::Spot;

@@ -1,7 +1,8 @@
-ghost use Rattle.std.specs.Prelude.{◌≡◌, ◌<◌, ◌^◌, ℕ, true, false, [], length, replicate, IfOk, IfSome, IfNone, OnErr};
+ghost use Rattle.std.specs.Prelude.{◌≡◌, ◌<◌, ◌^◌, ℕ, true, false, [], length, IfOk, IfSome, IfNone, OnErr};
 
 use crate::held::Held;
 use crate::picks::PicksLeft;
+use crate::progress::Progress;
 use crate::schedule::{first_ready_at, is_ready_at, next_op, settle};
 use block_store::{Answer, Spot, Store};
 use mem_base::{Ask, Entry, Grant, History, List, Step, Texts, Totals, Trace, TrackId};
@@ -15,16 +16,9 @@ pub struct Machine {
     trace: Trace,
     history: History,
     held: Held,
-    done: Vec<u32>,
+    progress: Progress,
     faulted: bool,
     picks: PicksLeft,
-}
-
-// As many zeros as there are tracks.
-fn no_ops_done(alloc: Global, count: usize) -> Result<Vec<u32>, AllocError>
-    ensures { IfOk result (λ v. v.items ≡ replicate count 0) }
-{
-    vec![in alloc; 0; count]
 }
 
 impl Model for Machine {
@@ -44,7 +38,7 @@ impl Model for Machine {
       pieces = a.held.store.pieces;
     } };
 
-    ghost invariant = { λ a. Stands a.trace a.history.entries a.held a.done.items a.faulted };
+    ghost invariant = { λ a. Stands a.trace a.history.entries a.held a.progress a.faulted };
 }
 
 impl Machine {
@@ -70,7 +64,7 @@ impl Machine {
         ensures arenas { IfOk result (λ m. m.arenas ≡ []) }
         ensures raws { IfOk result (λ m. m.raws ≡ []) }
     {
-        let done = no_ops_done(alloc, trace.tracks.len())?;
+        let progress = Progress::new(alloc, &trace)?;
         let store = Store::new(alloc, trace.texts.len())?;
         Ok(Machine {
             alloc,
@@ -79,7 +73,7 @@ impl Machine {
                 entries: List::new(alloc),
             },
             held: Held { store, owner: None },
-            done,
+            progress,
             faulted: false,
             picks: PicksLeft::all(),
         })
@@ -155,7 +149,7 @@ impl Machine {
             trace: _,
             history,
             held,
-            done: _,
+            progress: _,
             faulted: _,
             picks: _,
         } = self;
@@ -169,7 +163,12 @@ impl Machine {
         requires { t < length self.now.trace.tracks }
         ensures { result ≡ is_ready (tracks_of self.now) (state_of self.now) t }
     {
-        is_ready_at(&self.trace, self.held.owner, self.done.as_slice(), t)
+        is_ready_at(
+            &self.trace,
+            self.held.owner,
+            self.progress.done.as_slice(),
+            t,
+        )
     }
 
     /// The first track that is ready.
@@ -177,7 +176,7 @@ impl Machine {
         ensures first { IfSome result (IsFirstReady (ready_in self.now)) }
         ensures none { IfNone result (IsDone (tracks_of self.now) (state_of self.now)) }
     {
-        first_ready_at(&self.trace, self.held.owner, self.done.as_slice())
+        first_ready_at(&self.trace, self.held.owner, &self.progress)
     }
 
     /// The track that the schedule takes for the next event: that of the first pick of a ready track, or
@@ -189,12 +188,10 @@ impl Machine {
         ensures left { IfNone result (self.new.picks ≡ []) }
         ensures same { self.new ≡ record self.old { picks = self.new.picks } }
     {
-        let picked = self
-            .picks
-            .take(&self.trace, self.held.owner, self.done.as_slice());
+        let picked = self.picks.take(&self.trace, self.held.owner, self.progress.done.as_slice());
         match picked {
             Some(t) => Some(t),
-            None => first_ready_at(&self.trace, self.held.owner, self.done.as_slice()),
+            None => first_ready_at(&self.trace, self.held.owner, &self.progress),
         }
     }
 
@@ -227,7 +224,7 @@ impl Machine {
             (IsPassedOn (A.seen arenas.old) (A.seen arenas.new) (R.seen raws.old) (R.seen raws.new)) }
         ensures held { AreOut self.new.arenas self.new.raws (A.seen arenas.new) (R.seen raws.new) }
     {
-        let at = self.done[t as usize];
+        let at = self.progress.done[t as usize];
         let Some(op) = next_op(&self.trace, t, at) else {
             unreachable!()
         };
@@ -240,7 +237,13 @@ impl Machine {
                     ..quiet_entry(t, at)
                 };
                 self.history.entries.set_last(entry);
-                self.faulted = settle(&self.trace, &mut self.held.owner, &mut self.done, t, &reply);
+                self.faulted = settle(
+                    &self.trace,
+                    &mut self.held.owner,
+                    &mut self.progress,
+                    t,
+                    &reply,
+                );
                 Ok(Step { entry, reply })
             }
             Err(error) => {

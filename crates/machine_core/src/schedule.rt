@@ -3,7 +3,7 @@
 //! A track is ready where it has an operation left and need not wait for another track: only `acquire`
 //! waits, while another track owns the interpreter lock. A track that has done its last operation lets
 //! go of the lock, as a thread that ends does.
-ghost use Rattle.std.specs.Prelude.{◌≡◌, ◌≤◌, ◌+◌, ◌<◌, ◌^◌, ℕ, List, true, false, if◌then◌else◌, length, slice_index, slice_set, IfSome, IfNone};
+ghost use Rattle.std.specs.Prelude.{◌≡◌, ◌≤◌, ◌+◌, ◌<◌, ◌^◌, ◌&&◌, ℕ, List, true, false, if◌then◌else◌, length, slice_index, slice_set, IfSome, IfNone, None, is_some, not};
 ghost use Rattle.std.specs.Option.{option_copied};
 ghost use Rattle.mem_base.specs.Name.{Name};
 ghost use Rattle.trace_model.specs.Plain.{action_of, plain};
@@ -12,8 +12,11 @@ ghost use Rattle.event_model.specs.Effects.{may_do_next};
 ghost use Rattle.event_model.specs.Events.{let_go};
 ghost use Rattle.event_model.specs.Schedule.{IsFirstReady};
 ghost use Rattle.event_model.specs.Replies.{is_fault as is_fault_reply, plain_reply};
+ghost use Rattle.event_model.specs.State.{is_owner};
+ghost use Rattle.machine_core.specs.Progress.{IsProgress};
 ghost use Rattle.machine_core.specs.Ready.{is_ready_now};
 
+use crate::progress::Progress;
 use mem_base::{Op, Reply, Trace, TrackId};
 
 /// The operation of a track at an index.
@@ -24,6 +27,13 @@ pub(crate) fn next_op(trace: &Trace, t: TrackId, at: u32) -> Option<&Op>
         Some(track) => track.ops.get(at as usize),
         None => None,
     }
+}
+
+/// Whether a track has an operation at an index.
+pub(crate) fn has_op(trace: &Trace, t: TrackId, at: u32) -> bool
+    ensures { result ≡ is_some (op_at trace.now.tracks t at) }
+{
+    next_op(trace, t, at).is_some()
 }
 
 // Whether the track need not wait for another track to do this.
@@ -76,15 +86,21 @@ pub(crate) fn is_ready_at(trace: &Trace, owner: Option<TrackId>, done: &[u32], t
     }
 }
 
-/// The first track that is ready.
-pub(crate) fn first_ready_at(trace: &Trace, owner: Option<TrackId>, done: &[u32]) -> Option<TrackId>
-    requires tracks { length done.now ≡ length trace.now.tracks }
-    requires few { length done.now ≤ 64 }
-    ensures first { IfSome result (IsFirstReady (is_ready_now trace.now owner done.now)) }
-    ensures none { IfNone result ((t : ℕ) → is_ready_now trace.now owner done.now t ≡ false) }
+/// The first track that is ready: it is among those that have operations left.
+pub(crate) fn first_ready_at(
+    trace: &Trace,
+    owner: Option<TrackId>,
+    progress: &Progress,
+) -> Option<TrackId>
+    requires { IsProgress trace.now progress.now }
+    ensures first { IfSome result (IsFirstReady (is_ready_now trace.now owner progress.now.done.items)) }
+    ensures none { IfNone result
+        ((t : ℕ) → is_ready_now trace.now owner progress.now.done.items t ≡ false) }
 {
-    for t in 0..done.len() {
-        let t = t as u32;
+    let done = progress.done.as_slice();
+    let unfinished = progress.unfinished.as_slice();
+    for i in 0..unfinished.len() {
+        let t = unfinished[i];
         if is_ready_at(trace, owner, done, t) {
             return Some(t);
         }
@@ -119,11 +135,12 @@ fn is_fault(reply: &Reply) -> bool
     }
 }
 
-// The owner once the track has done so many operations: a finished track lets go of the lock.
-fn owner_then(trace: &Trace, t: TrackId, done: u32, owner: Option<TrackId>) -> Option<TrackId>
-    ensures { result ≡ let_go (plain trace.now).tracks t done owner }
+// The owner once a track has done an operation, and has more to do or not: a finished track lets go of the
+// lock.
+fn owner_then(owner: Option<TrackId>, t: TrackId, more: bool) -> Option<TrackId>
+    ensures { result ≡ (if is_owner owner t && not more then None else owner) }
 {
-    if owner == Some(t) && next_op(trace, t, done).is_none() {
+    if owner == Some(t) && !more {
         None
     } else {
         owner
@@ -134,23 +151,24 @@ fn owner_then(trace: &Trace, t: TrackId, done: u32, owner: Option<TrackId>) -> O
 pub(crate) fn settle(
     trace: &Trace,
     owner: &mut Option<TrackId>,
-    done: &mut Vec<u32>,
+    progress: &mut Progress,
     t: TrackId,
     reply: &Reply,
 ) -> bool
-    requires track { t < length done.old.items }
-    requires fits { slice_index done.old.items t + 1 < 2 ^ 32 }
+    requires is { IsProgress trace.now progress.old }
+    requires track { t < length progress.old.done.items }
+    requires fits { slice_index progress.old.done.items t + 1 < 2 ^ 32 }
     ensures fault { (texts : List Name) → result ≡ is_fault_reply (plain_reply texts reply.now) }
     ensures owner { owner.new ≡ (if result then owner.old
-        else let_go (plain trace.now).tracks t (slice_index done.old.items t + 1) owner.old) }
-    ensures done { done.new.items ≡ (if result then done.old.items
-        else slice_set done.old.items t (slice_index done.old.items t + 1)) }
+        else let_go (plain trace.now).tracks t (slice_index progress.old.done.items t + 1) owner.old) }
+    ensures done { progress.new.done.items ≡ (if result then progress.old.done.items
+        else slice_set progress.old.done.items t (slice_index progress.old.done.items t + 1)) }
+    ensures is { IsProgress trace.now progress.new }
 {
     let fault = is_fault(reply);
     if !fault {
-        let after = done[t as usize] + 1;
-        *owner = owner_then(trace, t, after, *owner);
-        done[t as usize] = after;
+        let more = progress.count(trace, t);
+        *owner = owner_then(*owner, t, more);
     }
     fault
 }

@@ -1,7 +1,7 @@
 use Rattle.std.proofs.Common.{◌≡◌, ℕ, Bool, List, Option, false, sym, subst}
 use Rattle.std.specs.Prelude.{IfSome, IfNone}
 use Rattle.event_model.specs.History.{IsDone}
-use Rattle.event_model.specs.Schedule.{IsFirstReady, IsPicked, NoneIsReady, Takes}
+use Rattle.event_model.specs.Schedule.{IsPicked, NoneIsReady, Takes}
 use Rattle.machine_core.specs.Picks.{left_of}
 use Rattle.machine_core.specs.Ready.{is_ready_now}
 use Rattle.machine_core.specs.View.{MachineView, tracks_of, state_of, ready_in}
@@ -15,9 +15,9 @@ returns-clause-takes c =
     let a = c.self.inside in
     let before = left_of a.trace.picks a.picks in
     let left = left_of a.trace.picks c.take-picked.new.self in
-    let now = is_ready_now a.trace a.held.owner a.done.items in
+    let now = is_ready_now a.trace a.held.owner a.progress.done.items in
     subst (λ (m : MachineView). IfSome c.match-picked.result (λ t. Takes (ready_in m) m.picks t left)) c.self.view_is
-    (subst (λ (ready : ℕ → Bool). IfSome c.match-picked.result (λ t. Takes ready before t left)) (λ i t. ready_is a.trace a.history.entries a.held a.done.items a.faulted c.self.invariant t i)
+    (subst (λ (ready : ℕ → Bool). IfSome c.match-picked.result (λ t. Takes ready before t left)) (λ i t. ready_is a.trace a.history.entries a.held a.progress a.faulted c.self.invariant t i)
     (elim c.match-picked.branch [
       | in-Some w ↦ subst (λ (r : Option ℕ). IfSome r (λ t. Takes now before t left)) (sym w.result-is)
           (some_takes now before left c.take-picked.result w.in-Some.t
@@ -26,17 +26,17 @@ returns-clause-takes c =
           (none_takes now before left c.take-picked.result w.first_ready_at.result
           (subst (λ (d : List ℕ). IfNone c.take-picked.result (NoneIsReady (is_ready_now a.trace a.held.owner d) before)) c.as_slice.ensures.value c.take-picked.ensures.over)
           c.take-picked.ensures.none w.in-None.is
-          (subst (λ (d : List ℕ). IfSome w.first_ready_at.result (IsFirstReady (is_ready_now a.trace a.held.owner d))) w.as_slice-in-None.ensures.value w.first_ready_at.ensures.first))
+          w.first_ready_at.ensures.first)
     ]))
 
 pub returns-clause-none : goal.returns-clause-none
 returns-clause-none c =
     let a = c.self.inside in
-    let now = is_ready_now a.trace a.held.owner a.done.items in
+    let now = is_ready_now a.trace a.held.owner a.progress.done.items in
     subst (λ (m : MachineView). IfNone c.match-picked.result (IsDone (tracks_of m) (state_of m))) c.self.view_is
-    (subst (λ (ready : ℕ → Bool). IfNone c.match-picked.result ((t : ℕ) → ready t ≡ false)) (λ i t. ready_is a.trace a.history.entries a.held a.done.items a.faulted c.self.invariant t i)
+    (subst (λ (ready : ℕ → Bool). IfNone c.match-picked.result ((t : ℕ) → ready t ≡ false)) (λ i t. ready_is a.trace a.history.entries a.held a.progress a.faulted c.self.invariant t i)
     (elim c.match-picked.branch [
       | in-Some w ↦ subst (λ (r : Option ℕ). IfNone r ((t : ℕ) → now t ≡ false)) (sym w.result-is) tt
       | in-None w ↦ subst (λ (r : Option ℕ). IfNone r ((t : ℕ) → now t ≡ false)) (sym w.result-is)
-          (subst (λ (d : List ℕ). IfNone w.first_ready_at.result ((t : ℕ) → is_ready_now a.trace a.held.owner d t ≡ false)) w.as_slice-in-None.ensures.value w.first_ready_at.ensures.none)
+          w.first_ready_at.ensures.none
     ]))

@@ -16,19 +16,19 @@ returns-in_err-push-clause-fails_arena g c =
 pub act-requires-clause-ask : goal.act-requires-clause-ask
 act-requires-clause-ask g c =
     let a = c.self.inside in
-    let few = few_taken a.trace a.history.entries a.held a.done.items a.faulted c.self.invariant in
+    let few = few_taken a.trace a.history.entries a.held a.progress a.faulted c.self.invariant in
     record { arena = c.requires.arena; raw = c.requires.raw; few_arenas = few.0; few_pools = few.1 }
 
 pub settle-self-inside-requires-clause-track : goal.settle-self-inside-requires-clause-track
 settle-self-inside-requires-clause-track g c =
     let a = c.self.inside in
-    within a.trace a.history.entries a.held a.done.items a.faulted c.args.t c.index-at.result.now c.in-Some.op.now c.self.invariant c.index-at.ensures (sym c.in-Some.ensures)
+    within a.trace a.history.entries a.held a.progress a.faulted c.args.t c.index-at.result.now c.in-Some.op.now c.self.invariant c.index-at.ensures (sym c.in-Some.ensures)
 
 pub settle-self-inside-requires-clause-fits : goal.settle-self-inside-requires-clause-fits
 settle-self-inside-requires-clause-fits g c =
     let a = c.self.inside in
     let known = c.self.invariant.known.ops c.args.t c.index-at.result.now c.in-Some.op.now (sym c.in-Some.ensures) in
-    let here = here_is a.trace a.history.entries a.held a.done.items a.faulted c.args.t c.index-at.result.now c.in-Some.op.now c.self.invariant c.index-at.ensures (sym c.in-Some.ensures) in
+    let here = here_is a.trace a.history.entries a.held a.progress a.faulted c.args.t c.index-at.result.now c.in-Some.op.now c.self.invariant c.index-at.ensures (sym c.in-Some.ensures) in
     omega (arith, known.1, here)
 
 pub invariant_of-self-in-Ok : goal.invariant_of-self-in-Ok
@@ -39,12 +39,12 @@ invariant_of-self-in-Ok g c =
     let made = c.quiet_entry-in-Ok.ensures in
     let ready = subst (λ (m : MachineView). is_ready (tracks_of m) (state_of m) c.args.t ≡ true) (sym c.self.view_is) c.requires.ready in
     let sound = subst (λ (m : MachineView). (state_of m).faulted ≡ false) (sym c.self.view_is) c.requires.no_fault in
-    subst (λ (l : List Entry). Stands a.trace l (record { store = c.act.new.self.store; owner = c.settle-self-inside.new.owner }) c.settle-self-inside.new.done.items c.settle-self-inside.result)
+    subst (λ (l : List Entry). Stands a.trace l (record { store = c.act.new.self.store; owner = c.settle-self-inside.new.owner }) c.settle-self-inside.new.progress c.settle-self-inside.result)
     (sym (redone a.history.entries c.push.new.self c.set_last.new.self c.quiet_entry.result e c.in_ok-push.ensures.ok c.set_last.ensures))
-    (stands_then a.trace a.history.entries a.held a.done.items a.faulted c.args.t c.index-at.result.now c.in-Some.op.now
+    (stands_then a.trace a.history.entries a.held a.progress a.faulted c.args.t c.index-at.result.now c.in-Some.op.now
     c.self.invariant c.index-at.ensures (sym c.in-Some.ensures) e (ap (λ (x : Entry). x.track) made) c.act.new.self c.in-Ok.field-0.reply c.in-Ok.ensures.acts
     (ap (λ (x : Entry). x.at) made) ready (c.self.invariant.fault_is ∙ sound)
-    c.settle-self-inside.result c.settle-self-inside.ensures.fault c.settle-self-inside.new.owner c.settle-self-inside.ensures.owner c.settle-self-inside.new.done.items c.settle-self-inside.ensures.done)
+    c.settle-self-inside.result c.settle-self-inside.ensures.fault c.settle-self-inside.new.owner c.settle-self-inside.ensures.owner c.settle-self-inside.new.progress c.settle-self-inside.ensures.done c.settle-self-inside.ensures.is)
 
 pub returns-in-Ok-clause-step : goal.returns-in-Ok-clause-step
 returns-in-Ok-clause-step g c =
@@ -57,10 +57,10 @@ returns-in-Ok-clause-step g c =
     let sound = subst (λ (m : MachineView). (state_of m).faulted ≡ false) (sym c.self.view_is) c.requires.no_fault in
     subst (λ (m : MachineView). IsEvent m.trace m.entries c.set_last.new.self c.args.t (record { entry = e; reply = c.in-Ok.field-0.reply })) c.self.view_is (record {
       track = track;
-      next = is_next a.trace a.history.entries a.held a.done.items a.faulted c.args.t c.index-at.result.now c.in-Some.op.now
+      next = is_next a.trace a.history.entries a.held a.progress a.faulted c.args.t c.index-at.result.now c.in-Some.op.now
           c.self.invariant c.index-at.ensures (sym c.in-Some.ensures) e track c.act.new.self c.in-Ok.field-0.reply c.in-Ok.ensures.acts (ap (λ (x : Entry). x.at) made) ready (c.self.invariant.fault_is ∙ sound);
       grows = redone a.history.entries c.push.new.self c.set_last.new.self c.quiet_entry.result e c.in_ok-push.ensures.ok c.set_last.ensures;
-      reply = reply_is a.trace a.history.entries a.held a.done.items a.faulted c.args.t c.index-at.result.now c.in-Some.op.now
+      reply = reply_is a.trace a.history.entries a.held a.progress a.faulted c.args.t c.index-at.result.now c.in-Some.op.now
           c.self.invariant c.index-at.ensures (sym c.in-Some.ensures) e track c.act.new.self c.in-Ok.field-0.reply c.in-Ok.ensures.acts;
     })
 
@@ -71,7 +71,7 @@ returns-in-Ok-clause-asks_arena g c =
     let asked = c.in-Ok.field-0.asked in
     let e : Entry = record { track = quiet.track; at = quiet.at; arena = asked.arena; raw = asked.raw } in
     subst (λ (m : MachineView). Requests sides.Arena m.trace m.entries e m.arenas c.act.new.self.store.arenas (g.A.ArenaSource.seen c.args.arenas.now) (g.A.ArenaSource.seen c.act.new.arenas)) c.self.view_is
-    (requests_are a.trace a.history.entries a.held a.done.items a.faulted c.args.t c.index-at.result.now c.in-Some.op.now
+    (requests_are a.trace a.history.entries a.held a.progress a.faulted c.args.t c.index-at.result.now c.in-Some.op.now
     c.self.invariant c.index-at.ensures (sym c.in-Some.ensures) sides.Arena e (arena_asks asked.arena) (arena_refusals asked.arena)
     a.held.store.arenas c.act.new.self.store.arenas (g.A.ArenaSource.seen c.args.arenas.now) (g.A.ArenaSource.seen c.act.new.arenas)
     (ap (λ (x : Entry). x.track) c.quiet_entry-in-Ok.ensures) refl refl c.in-Ok.ensures.asks_arena)
@@ -83,7 +83,7 @@ returns-in-Ok-clause-asks_raw g c =
     let asked = c.in-Ok.field-0.asked in
     let e : Entry = record { track = quiet.track; at = quiet.at; arena = asked.arena; raw = asked.raw } in
     subst (λ (m : MachineView). Requests sides.Raw m.trace m.entries e m.raws c.act.new.self.store.raws (g.R.RawSource.seen c.args.raws.now) (g.R.RawSource.seen c.act.new.raws)) c.self.view_is
-    (requests_are a.trace a.history.entries a.held a.done.items a.faulted c.args.t c.index-at.result.now c.in-Some.op.now
+    (requests_are a.trace a.history.entries a.held a.progress a.faulted c.args.t c.index-at.result.now c.in-Some.op.now
     c.self.invariant c.index-at.ensures (sym c.in-Some.ensures) sides.Raw e (raw_asks asked.raw) (raw_refusals asked.raw)
     a.held.store.raws c.act.new.self.store.raws (g.R.RawSource.seen c.args.raws.now) (g.R.RawSource.seen c.act.new.raws)
     (ap (λ (x : Entry). x.track) c.quiet_entry-in-Ok.ensures) refl refl c.in-Ok.ensures.asks_raw)

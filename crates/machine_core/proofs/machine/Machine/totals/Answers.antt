@@ -10,5 +10,5 @@ returns c =
     let a = c.self.inside in
     let found : Totals = record { events = c.len.result; owner = a.held.owner; blocks = c.totals-blocks.result.blocks; bytes = c.totals-blocks.result.bytes; counts = c.counts.result; traced = 0; peak = 0 } in
     subst (λ (m : MachineView). found ≡ totals_of (tracks_of m) m.entries) c.self.view_is
-    (totals_are a.trace a.history.entries a.held a.done.items a.faulted c.self.invariant
+    (totals_are a.trace a.history.entries a.held a.progress a.faulted c.self.invariant
     c.len.result c.len.ensures c.totals-blocks.result.blocks c.totals-blocks.result.bytes c.totals-blocks.ensures.blocks c.totals-blocks.ensures.bytes c.counts.result c.counts.ensures)
