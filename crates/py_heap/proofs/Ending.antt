@@ -21,7 +21,7 @@ use Rattle.arena_set.specs.Flat.{part}
 use Rattle.arena_set.proofs.CallerLemmas.{inside, flat_empty, regions_flat}
 use Rattle.py_heap.specs.Heap.{empty_heap}
 use Rattle.py_heap.specs.Kept.{ClassView, State, no_pools, lines_of, tables_of, heap_of, IsKeptState}
-use Rattle.py_heap.specs.Links.{addresses_of, class_of, numbered, pool_in, IsHeaded, AreLinked}
+use Rattle.py_heap.specs.Links.{addresses_of, class_of, nth_arena, pool_in, IsHeaded, AreLinked}
 use Rattle.py_heap.proofs.Arenas.{line_there, arena_at, flat_has}
 
 -- ---- where no block is in use
@@ -111,7 +111,7 @@ same_room zero c = refl
 same_room (suc n) zero = refl
 same_room (suc n) (suc c) = same_room n c
 
-none_numbered : (n : ℕ) → numbered [] n ≡ None
+none_numbered : (n : ℕ) → nth_arena [] n ≡ None
 none_numbered zero = refl
 none_numbered (suc n) = refl
 

@@ -16,7 +16,7 @@ use Rattle.arena_set.specs.Set.{SetView, pool_line, pools_of}
 use Rattle.arena_set.specs.Calls.{CanGive, GivesPool, KeptAfter, PoolsLeft}
 use Rattle.arena_set.proofs.CallerLemmas.{inside}
 use Rattle.py_heap.specs.Kept.{lines_of}
-use Rattle.py_heap.specs.Links.{ClassView, spot, numbered, pool_in, place_in, pool_at, class_of, next_of, prev_of, list_of, AreLinked}
+use Rattle.py_heap.specs.Links.{ClassView, spot, nth_arena, pool_in, place_in, pool_at, class_of, next_of, prev_of, list_of, AreLinked}
 use Rattle.py_heap.proofs.Arenas.{at_once, line_at, line_there, started_there}
 use Rattle.py_heap.proofs.Linked.{id_at, numbered_is, pool_there}
 use Rattle.py_heap.proofs.Relisted.{still_linked}
@@ -43,12 +43,12 @@ module _ (old new : SetView) (id : PoolId) (back : Option RegionView) (can : Can
 
   -- the arena is gone
   module _ (arenas : new.arenas ≡ set old.arenas (id.arena - 1) None) where
-    gone : numbered new.arenas id.arena ≡ None
+    gone : nth_arena new.arenas id.arena ≡ None
     gone =
         let some = g.at.some in let e : id.arena ≡ suc (id.arena - 1) = omega arith in
-        ap (numbered new.arenas) e ∙ (ap (λ xs. get_or xs (id.arena - 1) None) arenas ∙ get_or-set_same old.arenas (id.arena - 1) None None (inside old.arenas (id.arena - 1) g.a g.at.there))
+        ap (nth_arena new.arenas) e ∙ (ap (λ xs. get_or xs (id.arena - 1) None) arenas ∙ get_or-set_same old.arenas (id.arena - 1) None None (inside old.arenas (id.arena - 1) g.a g.at.there))
 
-    others : (n : ℕ) → n ≢ id.arena → numbered new.arenas n ≡ numbered old.arenas n
+    others : (n : ℕ) → n ≢ id.arena → nth_arena new.arenas n ≡ nth_arena old.arenas n
     others zero n = refl
     others (suc m) n = ap (λ xs. get_or xs m None) arenas ∙ get_or-set_other old.arenas (id.arena - 1) m None None (λ e. n (let some = g.at.some in omega arith))
 
@@ -65,14 +65,14 @@ module _ (old new : SetView) (id : PoolId) (back : Option RegionView) (can : Can
         let here = left (get_or g.a.pools id.pool None) g.pools x (other_than c s h) (started_there old (id_at s) p.a p.x p.started) in
         let z = line_there new x here in
         let arena : z.id.arena ≡ id.arena = ap (λ (y : PoolLine). y.arena) z.is ∙ e in
-        let is = sym (ap (numbered new.arenas) arena) ∙ numbered_is new z.id.arena z.a z.started.at in
+        let is = sym (ap (nth_arena new.arenas) arena) ∙ numbered_is new z.id.arena z.a z.started.at in
         let none = gone in cc
 
     went : AreLinked new.arenas classes
     went =
         let there : (s : Spot) → s.arena ≢ id.arena → pool_at new.arenas s ≡ pool_at old.arenas s = λ s n. ap (λ o. pool_in o s.slot) (others s.arena n) in
         still_linked old.arenas new.arenas classes l (λ c s h. ap class_of (there s (elsewhere c s h)) ∙ l.listed c s h) (λ c s h. ap (λ o. place_in o s.slot) (others s.arena (elsewhere c s h))) (λ c s e. elim (eqb_tells s.arena id.arena) [
-          | inl w ↦ let none = ap (λ n. class_of (pool_in (numbered new.arenas n) s.slot)) w.1 ∙ ap (λ o. class_of (pool_in o s.slot)) gone in absurd (cc)
+          | inl w ↦ let none = ap (λ n. class_of (pool_in (nth_arena new.arenas n) s.slot)) w.1 ∙ ap (λ o. class_of (pool_in o s.slot)) gone in absurd (cc)
           | inr w ↦ let t = there s w.1 in inl (sym (ap class_of t) ∙ e, ap next_of t, ap prev_of t, ap (λ o. place_in o s.slot) (others s.arena w.1))
         ])
 

@@ -24,7 +24,7 @@ use Rattle.arena_set.specs.Arena.{ArenaView, IsArena, new_arena as first_arena}
 use Rattle.arena_set.specs.Rule.{CameAlone}
 use Rattle.py_heap.specs.Heap.{BeginsIfThere, Serves}
 use Rattle.py_heap.specs.Kept.{State, no_pools, spots_of, lines_of, sites_of, tables_of, heap_of, class_at, full_in, IsKeptState}
-use Rattle.py_heap.specs.Links.{numbered, pool_at, pool_in, place_in as place_in_arena, class_of, next_of, prev_of, list_of, AreLinked}
+use Rattle.py_heap.specs.Links.{nth_arena, pool_at, pool_in, place_in as place_in_arena, class_of, next_of, prev_of, list_of, AreLinked}
 use Rattle.py_heap.proofs.Linked.{pool_there}
 use Rattle.py_heap.proofs.Relisted.{still_linked}
 use Rattle.py_heap.specs.Steps.{OnlyRoom, Comes}
@@ -116,9 +116,9 @@ module _ (old : State) (k : IsKeptState old) (r : RegionView) (set1 : SetView) (
   more_arenas (x ∷ xs) zero z d = inl refl
   more_arenas (x ∷ xs) (suc n) z d = more_arenas xs n z d
 
-  arena_of : (z : Spot) (d : ℕ) → (numbered set1.arenas z.arena ≡ numbered old.set.arenas z.arena) ⊎ (class_of (pool_at set1.arenas z) ≡ None)
+  arena_of : (z : Spot) (d : ℕ) → (nth_arena set1.arenas z.arena ≡ nth_arena old.set.arenas z.arena) ⊎ (class_of (pool_at set1.arenas z) ≡ None)
   arena_of z d = elim (more_arenas (None ∷ old.set.arenas) z.arena z d) [
-    | inl e ↦ inl (ap (λ es. numbered es z.arena) arenas ∙ e)
+    | inl e ↦ inl (ap (λ es. nth_arena es z.arena) arenas ∙ e)
     | inr e ↦ inr (ap (λ es. class_of (pool_at es z)) arenas ∙ e)
   ]
 
@@ -130,12 +130,12 @@ module _ (old : State) (k : IsKeptState old) (r : RegionView) (set1 : SetView) (
         | inl w ↦ inl (sym (ap (λ o. class_of (pool_in o z.slot)) w) ∙ e, ap (λ o. next_of (pool_in o z.slot)) w, ap (λ o. prev_of (pool_in o z.slot)) w, ap (λ o. place_in_arena o z.slot) w)
         | inr w ↦ absurd (cc)
       ]) where
-        there : (d : ℕ) (z : Spot) → Has z (list_of old.classes d) → numbered set1.arenas z.arena ≡ numbered old.set.arenas z.arena
+        there : (d : ℕ) (z : Spot) → Has z (list_of old.classes d) → nth_arena set1.arenas z.arena ≡ nth_arena old.set.arenas z.arena
         there d z h =
             let p = pool_there old.set z d (k.linked.listed d z h) in
             let at = p.started.at in let some = at.some in let lt = inside old.set.arenas (z.arena - 1) p.a at.there in
             let e : z.arena ≡ suc (z.arena - 1) = omega arith in
-            ap (λ es. numbered es z.arena) arenas ∙ (ap (λ n. get_or (None ∷ (old.set.arenas ++ Some (first_arena r) ∷ [])) n None) e ∙ (get_or_append_left old.set.arenas (Some (first_arena r) ∷ []) None (z.arena - 1) lt
+            ap (λ es. nth_arena es z.arena) arenas ∙ (ap (λ n. get_or (None ∷ (old.set.arenas ++ Some (first_arena r) ∷ [])) n None) e ∙ (get_or_append_left old.set.arenas (Some (first_arena r) ∷ []) None (z.arena - 1) lt
             ∙ ap (λ n. get_or (None ∷ old.set.arenas) n None) (sym e)))
 
   pub mid_kept : IsKeptState mid

@@ -18,7 +18,7 @@ use Rattle.arena_set.specs.Set.{SetView, regions_of, IsSet}
 use Rattle.arena_set.specs.Calls.{IsAt, IsStarted, HasStarted}
 use Rattle.py_heap.specs.declared.classes.ClassPools.{ClassPools}
 use Rattle.py_heap.specs.Heap.{first_in, next_in}
-use Rattle.py_heap.specs.Links.{ClassView, no_pools, spot, sites_of, numbered, pool_in, place_in, pool_at, place_of, class_of, next_of, spot_by, spots_from, spots_by, class_view, first_id, list_of, addresses_of, AreLinked}
+use Rattle.py_heap.specs.Links.{ClassView, no_pools, spot, sites_of, nth_arena, pool_in, place_in, pool_at, place_of, class_of, next_of, spot_by, spots_from, spots_by, class_view, first_id, list_of, addresses_of, AreLinked}
 use Rattle.py_heap.specs.Relinks.{BeginsAt, IsLink, IsPoolOf, LeadsTo}
 use Rattle.py_heap.proofs.Arenas.{arena_at, region_there, site_there, sites_cover}
 use Rattle.py_heap.proofs.Ground.{below_total, pool_once}
@@ -26,10 +26,10 @@ use Rattle.py_heap.proofs.Neighbours.{next_between, times_here}
 
 -- ---- pools by their spots
 
-pub numbered_is : (v : SetView) (n : ℕ) (a : ArenaView) → IsAt v n a → numbered v.arenas n ≡ Some a
-numbered_is v n a at = let some = at.some in let e : n ≡ suc (n - 1) = omega arith in ap (numbered v.arenas) e ∙ at.there
+pub numbered_is : (v : SetView) (n : ℕ) (a : ArenaView) → IsAt v n a → nth_arena v.arenas n ≡ Some a
+numbered_is v n a at = let some = at.some in let e : n ≡ suc (n - 1) = omega arith in ap (nth_arena v.arenas) e ∙ at.there
 
-pub at_number : (v : SetView) (n : ℕ) (a : ArenaView) → numbered v.arenas n ≡ Some a → IsAt v n a
+pub at_number : (v : SetView) (n : ℕ) (a : ArenaView) → nth_arena v.arenas n ≡ Some a → IsAt v n a
 at_number v zero a e = absurd (cc)
 at_number v (suc n) a e = record { some = omega arith; there = let m : n ≡ suc n - 1 = omega arith in subst (λ j. get_or v.arenas j None ≡ Some a) m e }
 
@@ -56,15 +56,15 @@ pub record PoolAt (v : SetView) (s : Spot) (c : ℕ) : Type 0 where
   pub is : pool_at v.arenas s ≡ Some x
 
 pub pool_there : (v : SetView) (s : Spot) (c : ℕ) → class_of (pool_at v.arenas s) ≡ Some c → PoolAt v s c
-pool_there v s c e = by (numbered v.arenas s.arena) refl where
-  by_pool : (a : ArenaView) → numbered v.arenas s.arena ≡ Some a → (o : Option Started) → get_or a.pools s.slot None ≡ o → PoolAt v s c
+pool_there v s c e = by (nth_arena v.arenas s.arena) refl where
+  by_pool : (a : ArenaView) → nth_arena v.arenas s.arena ≡ Some a → (o : Option Started) → get_or a.pools s.slot None ≡ o → PoolAt v s c
   by_pool a n None p = let w : class_of (pool_at v.arenas s) ≡ None = ap (λ o. class_of (pool_in o s.slot)) n ∙ ap class_of p in absurd (cc)
   by_pool a n (Some x) p =
       let is : pool_at v.arenas s ≡ Some x = ap (λ o. pool_in o s.slot) n ∙ p in
       let w : class_of (pool_at v.arenas s) ≡ Some x.pool.class = ap class_of is in
       record { a = a; x = x; started = record { at = at_number v s.arena a n; there = p }; class = cc; is = is }
 
-  by : (o : Option ArenaView) → numbered v.arenas s.arena ≡ o → PoolAt v s c
+  by : (o : Option ArenaView) → nth_arena v.arenas s.arena ≡ o → PoolAt v s c
   by None n = let w : class_of (pool_at v.arenas s) ≡ None = ap (λ o. class_of (pool_in o s.slot)) n in absurd (cc)
   by (Some a) n = by_pool a n (get_or a.pools s.slot None) refl
 

@@ -15,7 +15,7 @@ use Rattle.py_heap.specs.declared.classes.ClassPools.{ClassPools}
 use Rattle.py_heap.specs.Kept.{State}
 use Rattle.py_heap.specs.State.{state_of}
 use Rattle.py_heap.specs.Links.{ClassView, no_pools, spot, pool_at, place_of, class_of, next_of, prev_of, first_id, class_view, list_of, addresses_of, IsLinked, AreLinked}
-use Rattle.py_heap.specs.Relinks.{AreMarked, CanPutFirst, IsLink, LeadsTo, NextWritten, OnlyLinks, PrevWritten, PutsFirst, Unlinks, first_without, place_if, written}
+use Rattle.py_heap.specs.Relinks.{AreMarked, CanPutFirst, IsLink, LeadsTo, NextWritten, OnlyLinks, PrevWritten, PutsFirst, Unlinks, first_without, place_if, word_after}
 use Rattle.py_heap.proofs.Neighbours.{last_in}
 use Rattle.py_heap.proofs.Linked.{classes_told, first_link, has_started, head_of, heads_told, id_at, next_word, pool_is}
 use Rattle.py_heap.proofs.Relisted.{last_place, left_linked, prev_word, put_linked}
@@ -97,11 +97,11 @@ module _ (p : Pools) (c : ℕ) (inside : c < length p.classes.items) (marked : A
     only : OnlyLinks p.set s4
     only = only_then p.set s1 s4 o1 (only_then s1 s2 s4 o2 (only_then s2 s3 s4 o3 o4))
 
-    next_now : (s : Spot) → next_of (pool_at s4.arenas s) ≡ written (Some id) 0 s (written before (next_of (pool_at p.set.arenas (spot id))) s (next_of (pool_at p.set.arenas s)))
-    next_now s = x4 s ∙ (x3 s ∙ ap (written (Some id) 0 s) (x2 s ∙ (x1 s ∙ ap (λ m. written before m s (next_of (pool_at p.set.arenas s))) n_is)))
+    next_now : (s : Spot) → next_of (pool_at s4.arenas s) ≡ word_after (Some id) 0 s (word_after before (next_of (pool_at p.set.arenas (spot id))) s (next_of (pool_at p.set.arenas s)))
+    next_now s = x4 s ∙ (x3 s ∙ ap (word_after (Some id) 0 s) (x2 s ∙ (x1 s ∙ ap (λ m. word_after before m s (next_of (pool_at p.set.arenas s))) n_is)))
 
-    prev_now : (s : Spot) → prev_of (pool_at s4.arenas s) ≡ written (Some id) 0 s (written after (prev_of (pool_at p.set.arenas (spot id))) s (prev_of (pool_at p.set.arenas s)))
-    prev_now s = y4 s ∙ ap (written (Some id) 0 s) (y3 s ∙ (y2 s ∙ (ap (written after w s) (y1 s) ∙ ap (λ m. written after m s (prev_of (pool_at p.set.arenas s))) w_is)))
+    prev_now : (s : Spot) → prev_of (pool_at s4.arenas s) ≡ word_after (Some id) 0 s (word_after after (prev_of (pool_at p.set.arenas (spot id))) s (prev_of (pool_at p.set.arenas s)))
+    prev_now s = y4 s ∙ ap (word_after (Some id) 0 s) (y3 s ∙ (y2 s ∙ (ap (word_after after w s) (y1 s) ∙ ap (λ m. word_after after m s (prev_of (pool_at p.set.arenas s))) w_is)))
 
     abbrev old_head : ClassView
     old_head = get_or (state_of p).classes c no_pools
@@ -173,11 +173,11 @@ module _ (p : Pools) (c : ℕ) (inside : c < length p.classes.items) (marked : A
       first_is : head.first ≡ first_id (list_of (state_of p).classes c)
       first_is = ap (λ (h : ClassPools). h.first) (sym put_head) ∙ (l.headed c).first
 
-      next_put : (s : Spot) → next_of (pool_at s2.arenas s) ≡ written (Some id) (place_if p.set (first_id (list_of (state_of p).classes c))) s (next_of (pool_at p.set.arenas s))
-      next_put s = x2 s ∙ (x1 s ∙ ap (λ m. written (Some id) m s (next_of (pool_at p.set.arenas s))) (n_is ∙ ap (place_if p.set) first_is))
+      next_put : (s : Spot) → next_of (pool_at s2.arenas s) ≡ word_after (Some id) (place_if p.set (first_id (list_of (state_of p).classes c))) s (next_of (pool_at p.set.arenas s))
+      next_put s = x2 s ∙ (x1 s ∙ ap (λ m. word_after (Some id) m s (next_of (pool_at p.set.arenas s))) (n_is ∙ ap (place_if p.set) first_is))
 
-      prev_put : (s : Spot) → prev_of (pool_at s2.arenas s) ≡ written (first_id (list_of (state_of p).classes c)) (place_of p.set.arenas (spot id)) s (prev_of (pool_at p.set.arenas s))
-      prev_put s = y2 s ∙ ((λ i. written (first_is i) (w_is i) s (y1 s i)))
+      prev_put : (s : Spot) → prev_of (pool_at s2.arenas s) ≡ word_after (first_id (list_of (state_of p).classes c)) (place_of p.set.arenas (spot id)) s (prev_of (pool_at p.set.arenas s))
+      prev_put s = y2 s ∙ ((λ i. word_after (first_is i) (w_is i) s (y1 s i)))
 
       abbrev more : ClassView
       more = record { spots = spot id ∷ list_of (state_of p).classes c; full = (head0).full; first = Some id; count = (head0).count + 1 }

@@ -12,8 +12,8 @@ use Rattle.arena_set.specs.Arena.{ArenaView, PoolChange}
 use Rattle.arena_set.specs.Set.{SetView, loans_of, pools_of, regions_of, usable_of, dry_of, IsSet}
 use Rattle.arena_set.specs.Calls.{HasStarted, IsAt, IsStarted, Links, OneArena}
 use Rattle.arena_set.proofs.CallerLemmas.{inside}
-use Rattle.py_heap.specs.Links.{ClassView, spot, sites_of, numbered, pool_in, place_in, pool_at, place_of, class_of, next_of, prev_of, AreLinked}
-use Rattle.py_heap.specs.Relinks.{OnlyLinks, SameBody, written}
+use Rattle.py_heap.specs.Links.{ClassView, spot, sites_of, nth_arena, pool_in, place_in, pool_at, place_of, class_of, next_of, prev_of, AreLinked}
+use Rattle.py_heap.specs.Relinks.{OnlyLinks, SameBody, word_after}
 use Rattle.py_heap.proofs.Arenas.{sites_same}
 use Rattle.py_heap.proofs.Linked.{class_is, has_started, numbered_is, pool_is}
 use Rattle.py_heap.proofs.Relisted.{still_linked}
@@ -22,12 +22,12 @@ use Rattle.py_heap.proofs.Relisted.{still_linked}
 
 module _ (old new : SetView) (id : PoolId) (a b : ArenaView) (o : Option Started) (at : IsAt old id.arena a) (lt : id.pool < length a.pools) (arenas : new.arenas ≡ set old.arenas (id.arena - 1) (Some b))
     (pools : b.pools ≡ set a.pools id.pool o) (base : b.region.base ≡ a.region.base) where
-  here_arena : numbered new.arenas id.arena ≡ Some b
+  here_arena : nth_arena new.arenas id.arena ≡ Some b
   here_arena =
       let some = at.some in let e : id.arena ≡ suc (id.arena - 1) = omega arith in
-      ap (numbered new.arenas) e ∙ (ap (λ xs. get_or xs (id.arena - 1) None) arenas ∙ get_or-set_same old.arenas (id.arena - 1) (Some b) None (inside old.arenas (id.arena - 1) a at.there))
+      ap (nth_arena new.arenas) e ∙ (ap (λ xs. get_or xs (id.arena - 1) None) arenas ∙ get_or-set_same old.arenas (id.arena - 1) (Some b) None (inside old.arenas (id.arena - 1) a at.there))
 
-  other_arena : (n : ℕ) → n ≢ id.arena → numbered new.arenas n ≡ numbered old.arenas n
+  other_arena : (n : ℕ) → n ≢ id.arena → nth_arena new.arenas n ≡ nth_arena old.arenas n
   other_arena zero n = refl
   other_arena (suc m) n = ap (λ xs. get_or xs m None) arenas ∙ get_or-set_other old.arenas (id.arena - 1) m (Some b) None (λ e. n (let some = at.some in omega arith))
 
@@ -38,16 +38,16 @@ module _ (old new : SetView) (id : PoolId) (a b : ArenaView) (o : Option Started
   other_pool s n = elim (eqb_tells s.arena id.arena) [
     | inl w ↦
         let slot : s.slot ≢ id.pool = λ e. n (λ i. record { arena = w.1 i; slot = e i }) in
-        (ap (λ x. pool_in (numbered new.arenas x) s.slot) w.1 ∙ (ap (λ x. pool_in x s.slot) here_arena ∙ (ap (λ ps. get_or ps s.slot None) pools ∙ get_or-set_other a.pools id.pool s.slot o None slot)))
-        ∙ sym (ap (λ x. pool_in (numbered old.arenas x) s.slot) w.1 ∙ ap (λ x. pool_in x s.slot) (numbered_is old id.arena a at))
+        (ap (λ x. pool_in (nth_arena new.arenas x) s.slot) w.1 ∙ (ap (λ x. pool_in x s.slot) here_arena ∙ (ap (λ ps. get_or ps s.slot None) pools ∙ get_or-set_other a.pools id.pool s.slot o None slot)))
+        ∙ sym (ap (λ x. pool_in (nth_arena old.arenas x) s.slot) w.1 ∙ ap (λ x. pool_in x s.slot) (numbered_is old id.arena a at))
     | inr w ↦ ap (λ x. pool_in x s.slot) (other_arena s.arena w.1)
   ]
 
   pub same_place : (s : Spot) → place_of new.arenas s ≡ place_of old.arenas s
   same_place s = elim (eqb_tells s.arena id.arena) [
     | inl w ↦
-        (ap (λ x. place_in (numbered new.arenas x) s.slot) w.1 ∙ (ap (λ x. place_in x s.slot) here_arena ∙ ap (λ x. place_at x s.slot) base))
-        ∙ sym (ap (λ x. place_in (numbered old.arenas x) s.slot) w.1 ∙ ap (λ x. place_in x s.slot) (numbered_is old id.arena a at))
+        (ap (λ x. place_in (nth_arena new.arenas x) s.slot) w.1 ∙ (ap (λ x. place_in x s.slot) here_arena ∙ ap (λ x. place_at x s.slot) base))
+        ∙ sym (ap (λ x. place_in (nth_arena old.arenas x) s.slot) w.1 ∙ ap (λ x. place_in x s.slot) (numbered_is old id.arena a at))
     | inr w ↦ ap (λ x. place_in x s.slot) (other_arena s.arena w.1)
   ]
 
@@ -106,7 +106,7 @@ only_then u v w x y = record {
   bodies = λ i. body_then (get_or u.arenas i None) (get_or v.arenas i None) (get_or w.arenas i None) (x.bodies i) (y.bodies i);
 }
 
--- one pool's words for its neighbours are written
+-- one pool gets other words for its neighbours
 module _ (old new : SetView) (id : PoolId) (t : Started) (links : Links old new id t) (class : t.pool.class ≡ links.s.pool.class) where
   linked_lt : id.pool < length links.a.pools
   linked_lt = inside links.a.pools id.pool links.s links.started.there
@@ -157,7 +157,7 @@ module _ (old new : SetView) (id : PoolId) (t : Started) (links : Links old new 
     bodies = bodies;
   }
 
-  pub word_written : (f : Option Started → ℕ) (z : Spot) → f (pool_at new.arenas z) ≡ written (Some id) (f (Some t)) z (f (pool_at old.arenas z))
+  pub word_written : (f : Option Started → ℕ) (z : Spot) → f (pool_at new.arenas z) ≡ word_after (Some id) (f (Some t)) z (f (pool_at old.arenas z))
   word_written f z = elim (spot_tells z (spot id)) [
     | inl w ↦ rw w.0 (ap (λ y. f (pool_at new.arenas y)) w.1 ∙ ap f here_linked)
     | inr w ↦ rw w.0 (ap f (others_linked z w.1))

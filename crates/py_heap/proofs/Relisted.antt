@@ -13,7 +13,7 @@ use Rattle.arena_set.specs.Arena.{ArenaView}
 use Rattle.arena_set.specs.Set.{SetView, IsSet}
 use Rattle.py_heap.specs.Heap.{first_in, next_in, prev_in}
 use Rattle.py_heap.specs.Links.{ClassView, no_pools, spot, pool_at, place_of, class_of, next_of, prev_of, first_id, IsHeaded, list_of, addresses_of, IsLinked, AreLinked}
-use Rattle.py_heap.specs.Relinks.{written, first_without, place_if, LeadsTo}
+use Rattle.py_heap.specs.Relinks.{word_after, first_without, place_if, LeadsTo}
 use Rattle.py_heap.proofs.Neighbours.{next_here, prev_here, next_other, prev_other, no_next, no_prev, last_in, next_between, prev_between, next_kept, next_last, first_times, prev_first, prev_kept, times_here}
 use Rattle.py_heap.proofs.Linked.{class_is, id_at, leads_first, place_some, spot_once, times_in}
 
@@ -114,10 +114,10 @@ module _ (v : SetView) (new : List (Option ArenaView)) (classes : List ClassView
       at : (s : Spot) (ss : List Spot) → IsLinked (pool_at new s) (place0 s) (all0 ss) → IsLinked (pool_at new s) (place_of new s) (addresses_of new ss)
       at s ss h = subst (λ qs. IsLinked (pool_at new s) (place_of new s) qs) (sym (same_all ss)) (subst (λ p. IsLinked (pool_at new s) p (all0 ss)) (sym (place s)) h)
 
-  written_same : (id : PoolId) (w old : ℕ) (s : Spot) → s ≡ spot id → written (Some id) w s old ≡ w
+  written_same : (id : PoolId) (w old : ℕ) (s : Spot) → s ≡ spot id → word_after (Some id) w s old ≡ w
   written_same id w old s e = elim (spot_tells s (spot id)) [ inl x ↦ rw x.0 refl | inr x ↦ absurd (x.1 e) ]
 
-  written_other : (id : PoolId) (w old : ℕ) (s : Spot) → s ≢ spot id → written (Some id) w s old ≡ old
+  written_other : (id : PoolId) (w old : ℕ) (s : Spot) → s ≢ spot id → word_after (Some id) w s old ≡ old
   written_other id w old s n = elim (spot_tells s (spot id)) [ inl x ↦ absurd (n x.1) | inr x ↦ rw x.0 refl ]
 
   -- a pool by its spot, where there is one
@@ -128,15 +128,15 @@ module _ (v : SetView) (new : List (Option ArenaView)) (classes : List ClassView
   places_apart s t d e f n same = n (spot_once v s t c d sound e f same)
 
   -- the first pool of the list alone gets another word for the pool before
-  first_unwritten : (ss : List Spot) (s : Spot) (w old : ℕ) → (Has s ss → ⊥) → written (first_id ss) w s old ≡ old
+  first_unwritten : (ss : List Spot) (s : Spot) (w old : ℕ) → (Has s ss → ⊥) → word_after (first_id ss) w s old ≡ old
   first_unwritten [] s w old n = refl
   first_unwritten (t ∷ ss) s w old n = written_other (id_at t) w old s (λ e. n (inl (sym e)))
 
   -- ---- a pool comes to the front
 
   module _ (id : PoolId) (mine : class_of (pool_at v.arenas (spot id)) ≡ Some c) (list : List Spot) (is : list_of classes c ≡ list) (out : Has (spot id) list → ⊥)
-      (next : (s : Spot) → next_of (pool_at new s) ≡ written (Some id) (place_if v (first_id list)) s (next_of (pool_at v.arenas s)))
-      (prev : (s : Spot) → prev_of (pool_at new s) ≡ written (first_id list) (place0 (spot id)) s (prev_of (pool_at v.arenas s))) where
+      (next : (s : Spot) → next_of (pool_at new s) ≡ word_after (Some id) (place_if v (first_id list)) s (next_of (pool_at v.arenas s)))
+      (prev : (s : Spot) → prev_of (pool_at new s) ≡ word_after (first_id list) (place0 (spot id)) s (prev_of (pool_at v.arenas s))) where
     first_word : (ss : List Spot) → place_if v (first_id ss) ≡ first_in (all0 ss)
     first_word [] = refl
     first_word (s ∷ ss) = refl
@@ -157,7 +157,7 @@ module _ (v : SetView) (new : List (Option ArenaView)) (classes : List ClassView
     ]
 
     prev_put_other : (ss : List Spot) (s : Spot) (old : ℕ) → ((t : Spot) → Has t ss → class_of (pool_at v.arenas t) ≡ Some c) → class_of (pool_at v.arenas s) ≡ Some c → s ≢ spot id → old ≡ prev_in 0 (place0 s) (all0 ss)
-        → written (first_id ss) (place0 (spot id)) s old ≡ prev_in 0 (place0 s) (place0 (spot id) ∷ all0 ss)
+        → word_after (first_id ss) (place0 (spot id)) s old ≡ prev_in 0 (place0 s) (place0 (spot id) ∷ all0 ss)
     prev_put_other [] s old all e n o = o ∙ sym (prev_other 0 (place0 s) (place0 (spot id)) [] (λ x. places_apart s (spot id) c e mine n (sym x)))
     prev_put_other (t ∷ ss) s old all e n o = elim (spot_tells s t) [
       | inl w ↦ written_same (id_at t) (place0 (spot id)) old s w.1 ∙ sym (prev_other 0 (place0 s) (place0 (spot id)) (all0 (t ∷ ss)) (λ x. places_apart s (spot id) c e mine n (sym x))
@@ -194,8 +194,8 @@ module _ (v : SetView) (new : List (Option ArenaView)) (classes : List ClassView
 
   module _ (id : PoolId) (front rest : List Spot) (is : list_of classes c ≡ front ++ spot id ∷ rest) (before after : Option PoolId)
       (leads_after : LeadsTo v (next_of (pool_at v.arenas (spot id))) after) (leads_before : LeadsTo v (prev_of (pool_at v.arenas (spot id))) before)
-      (next : (s : Spot) → next_of (pool_at new s) ≡ written (Some id) 0 s (written before (next_of (pool_at v.arenas (spot id))) s (next_of (pool_at v.arenas s))))
-      (prev : (s : Spot) → prev_of (pool_at new s) ≡ written (Some id) 0 s (written after (prev_of (pool_at v.arenas (spot id))) s (prev_of (pool_at v.arenas s)))) where
+      (next : (s : Spot) → next_of (pool_at new s) ≡ word_after (Some id) 0 s (word_after before (next_of (pool_at v.arenas (spot id))) s (next_of (pool_at v.arenas s))))
+      (prev : (s : Spot) → prev_of (pool_at new s) ≡ word_after (Some id) 0 s (word_after after (prev_of (pool_at v.arenas (spot id))) s (prev_of (pool_at v.arenas s)))) where
     abbrev s0 : Spot
     s0 = spot id
 
@@ -236,7 +236,7 @@ module _ (v : SetView) (new : List (Option ArenaView)) (classes : List ClassView
     some_place s d e z = let p = place_some v s d sound e in absurd (omega arith)
 
     next_left : (o : Option PoolId) → LeadsTo v (prev_of (pool_at v.arenas s0)) o → (s : Spot) → class_of (pool_at v.arenas s) ≡ Some c → s ≢ s0
-        → written o (next_of (pool_at v.arenas s0)) s (next_of (pool_at v.arenas s)) ≡ next_in (place0 s) (all0 front ++ all0 rest)
+        → word_after o (next_of (pool_at v.arenas s0)) s (next_of (pool_at v.arenas s)) ≡ next_in (place0 s) (all0 front ++ all0 rest)
     next_left None leads s e n = (was_linked s e).0 ∙ sym (next_kept 0 (place0 s) (place0 s0) (all0 front) (all0 rest) (places_apart s s0 c e own n) (λ x. some_place s c e (x ∙ (sym prev_is ∙ leads))))
     next_left (Some b) leads s e n =
         let st = leads.started in let class_b = class_is v b st.a st.s st.started in
@@ -247,7 +247,7 @@ module _ (v : SetView) (new : List (Option ArenaView)) (classes : List ClassView
         ]
 
     prev_left : (o : Option PoolId) → LeadsTo v (next_of (pool_at v.arenas s0)) o → (s : Spot) → class_of (pool_at v.arenas s) ≡ Some c → s ≢ s0
-        → written o (prev_of (pool_at v.arenas s0)) s (prev_of (pool_at v.arenas s)) ≡ prev_in 0 (place0 s) (all0 front ++ all0 rest)
+        → word_after o (prev_of (pool_at v.arenas s0)) s (prev_of (pool_at v.arenas s)) ≡ prev_in 0 (place0 s) (all0 front ++ all0 rest)
     prev_left None leads s e n = (was_linked s e).1 ∙ sym (prev_kept 0 (place0 s) (place0 s0) (all0 front) (all0 rest) (places_apart s s0 c e own n) (λ x. some_place s c e (x ∙ (sym next_is ∙ leads))))
     prev_left (Some b) leads s e n =
         let st = leads.started in let class_b = class_is v b st.a st.s st.started in
@@ -276,7 +276,7 @@ module _ (v : SetView) (new : List (Option ArenaView)) (classes : List ClassView
     ]
 
     -- the pool before has class c
-    last_unwritten : (o : Option PoolId) → LeadsTo v (prev_of (pool_at v.arenas s0)) o → (s : Spot) (d w old : ℕ) → d ≢ c → class_of (pool_at v.arenas s) ≡ Some d → written o w s old ≡ old
+    last_unwritten : (o : Option PoolId) → LeadsTo v (prev_of (pool_at v.arenas s0)) o → (s : Spot) (d w old : ℕ) → d ≢ c → class_of (pool_at v.arenas s) ≡ Some d → word_after o w s old ≡ old
     last_unwritten None leads s d w old n e = refl
     last_unwritten (Some b) leads s d w old n e =
         let st = leads.started in let class_b = class_is v b st.a st.s st.started in
@@ -314,6 +314,6 @@ module _ (v : SetView) (new : List (Option ArenaView)) (classes : List ClassView
         (λ s e. subst (λ ss. IsLinked (pool_at new s) (place0 s) (all0 ss)) (sym spots) (links_left s e))
         (λ d s n e. (
           next s ∙ (written_other id 0 _ s (other_class s s0 d n e own) ∙ last_unwritten before leads_before s d _ _ n e),
-          prev s ∙ (written_other id 0 _ s (other_class s s0 d n e own) ∙ (ap (λ o. written o (prev_of (pool_at v.arenas s0)) s (prev_of (pool_at v.arenas s))) rest_first
+          prev s ∙ (written_other id 0 _ s (other_class s s0 d n e own) ∙ (ap (λ o. word_after o (prev_of (pool_at v.arenas s0)) s (prev_of (pool_at v.arenas s))) rest_first
               ∙ first_unwritten rest s _ _ (λ h. other_class s s d n e (in_list s (has_right s front (s0 ∷ rest) (inr h))) refl))),
         ))

@@ -35,8 +35,8 @@ sites_of arenas = flat (λ n a. record { arena = n; base = a.region.base } ∷ [
 -- ---- what a spot has
 
 -- arena n
-abbrev pub numbered : List (Option ArenaView) → ℕ → Option ArenaView
-numbered arenas n = get_or (None ∷ arenas) n None
+abbrev pub nth_arena : List (Option ArenaView) → ℕ → Option ArenaView
+nth_arena arenas n = get_or (None ∷ arenas) n None
 
 -- pool k of an arena, where it was started
 abbrev pub pool_in : Option ArenaView → ℕ → Option Started
@@ -50,11 +50,11 @@ place_in (Some a) k = place_at a.region.base k
 
 -- the pool at the spot, where it was started
 abbrev pub pool_at : List (Option ArenaView) → Spot → Option Started
-pool_at arenas s = pool_in (numbered arenas s.arena) s.slot
+pool_at arenas s = pool_in (nth_arena arenas s.arena) s.slot
 
 -- where it begins
 abbrev pub place_of : List (Option ArenaView) → Spot → ℕ
-place_of arenas s = place_in (numbered arenas s.arena) s.slot
+place_of arenas s = place_in (nth_arena arenas s.arena) s.slot
 
 -- its class
 abbrev pub class_of : Option Started → Option ℕ
@@ -123,4 +123,5 @@ pub record AreLinked (arenas : List (Option ArenaView)) (classes : List ClassVie
   pub headed : (c : ℕ) → IsHeaded (get_or classes c no_pools)
   pub once : (c p : ℕ) → times p (addresses_of arenas (list_of classes c)) ≤ 1
   pub listed : (c : ℕ) (s : Spot) → Has s (list_of classes c) → class_of (pool_at arenas s) ≡ Some c
-  pub links : (c : ℕ) (s : Spot) → class_of (pool_at arenas s) ≡ Some c → IsLinked (pool_at arenas s) (place_of arenas s) (addresses_of arenas (list_of classes c))
+  pub links : (c : ℕ) (s : Spot) → class_of (pool_at arenas s) ≡ Some c
+      → IsLinked (pool_at arenas s) (place_of arenas s) (addresses_of arenas (list_of classes c))

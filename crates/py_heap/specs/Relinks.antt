@@ -55,8 +55,8 @@ place_if v (Some id) = place_of v.arenas (spot id)
 -- an arena stays, with its base and all its cells but those of headers
 abbrev pub SameBody : Option ArenaView → Option ArenaView → Type 0
 SameBody None o = o ≡ None
-SameBody (Some a) o = (b : ArenaView) × ((o ≡ Some b) × (b.region.base ≡ a.region.base)
-    × ((k off : ℕ) → HEADER_BYTES ≤ off → off < POOL_BYTES → get_or b.region.cells (pool_offset a.region.base k + off) None ≡ get_or a.region.cells (pool_offset a.region.base k + off) None))
+SameBody (Some a) o = (b : ArenaView) × ((o ≡ Some b) × (b.region.base ≡ a.region.base) × ((k off : ℕ) → HEADER_BYTES ≤ off → off < POOL_BYTES
+    → let i = pool_offset a.region.base k + off in get_or b.region.cells i None ≡ get_or a.region.cells i None))
 
 -- nothing has changed but links of pools
 pub record OnlyLinks (old new : SetView) : Type 0 where
@@ -73,17 +73,17 @@ pub record OnlyLinks (old new : SetView) : Type 0 where
   pub bodies : (i : ℕ) → SameBody (get_or old.arenas i None) (get_or new.arenas i None)
 
 -- the word of the pool at the spot s, where the one pool, if it is there, has got the word w
-abbrev pub written : Option PoolId → ℕ → Spot → ℕ → ℕ
-written None w s old = old
-written (Some id) w s old = if same_spot s (spot id) then w else old
+abbrev pub word_after : Option PoolId → ℕ → Spot → ℕ → ℕ
+word_after None w s old = old
+word_after (Some id) w s old = if same_spot s (spot id) then w else old
 
 -- the words for the next pool are as before, but for the one pool's
 abbrev pub NextWritten : Option PoolId → ℕ → SetView → SetView → Type 0
-NextWritten o w old new = (s : Spot) → next_of (pool_at new.arenas s) ≡ written o w s (next_of (pool_at old.arenas s))
+NextWritten o w old new = (s : Spot) → next_of (pool_at new.arenas s) ≡ word_after o w s (next_of (pool_at old.arenas s))
 
 -- the words for the pool before are as before, but for the one pool's
 abbrev pub PrevWritten : Option PoolId → ℕ → SetView → SetView → Type 0
-PrevWritten o w old new = (s : Spot) → prev_of (pool_at new.arenas s) ≡ written o w s (prev_of (pool_at old.arenas s))
+PrevWritten o w old new = (s : Spot) → prev_of (pool_at new.arenas s) ≡ word_after o w s (prev_of (pool_at old.arenas s))
 
 -- ---- lists
 
