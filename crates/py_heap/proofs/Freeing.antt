@@ -196,6 +196,25 @@ module _ (old : State) (k : IsKeptState old) (piece : PieceView) (loan : Has (pi
       let b = block_inside mends.s.pool.class p.off g.0.inside in
       let len = ap (λ (x : Extent). x.len) p.is in (omega arith, omega arith)
 
+  -- it is at home in its arena, where the arena's cells behind headers are as the mending left them
+  pub home_by : (new : State) → SameBody (Some mends.b) (get_or new.set.arenas (id.arena - 1) None) → AreHome piece (heap_of new)
+  home_by new body =
+      let p = piece_is old.set set1 id piece full empty k.sound_set can mends in
+      let place = ap (λ (e : Extent). e.place) p.is in
+      let base = mends.change.base in
+      let lies = piece_body p in
+      record {
+        arena = id.arena - 1;
+        region = body.0.region;
+        there = region_at (id.arena - 1) new.set.arenas ∙ ap region_in body.1.0;
+        inside = (let e = body.1.1 in omega arith);
+        bytes = λ i low lt.
+            let off : ℕ = (p.off + i) in
+            let e : pool_offset mends.b.region.base id.pool + off ≡ piece.place - mends.a.region.base + i = ap (λ n. pool_offset n id.pool + off) base ∙ omega arith in
+            let same = body.1.2 id.pool off (omega arith) (omega arith) in
+            ap (λ n. get_or body.0.region.cells n None) (let x = body.1.1 in let here : piece.place - body.0.region.base + i ≡ pool_offset mends.b.region.base id.pool + off = (let y = e in omega arith) in here) ∙ (same ∙ (ap (λ n. get_or mends.b.region.cells n None) e ∙ mends.bytes i low lt));
+      }
+
   pooled_less : (n : ℕ) → n ≡ old.pooled - 1 → n ≡ length (loans_of set1.arenas)
   pooled_less n is = let l = k.lent in let i = length_inserted (piece_extent piece) (loans_of set1.arenas) (loans_of old.set.arenas) loans in omega arith
 
@@ -221,24 +240,7 @@ module _ (old : State) (k : IsKeptState old) (piece : PieceView) (loan : Has (pi
     }
 
     home_again : AreHome piece (heap_of new)
-    home_again =
-        let p = piece_is old.set set1 id piece full empty k.sound_set can mends in
-        let place = ap (λ (e : Extent). e.place) p.is in
-        let base = mends.change.base in
-        let at = mends.now.at in
-        let body : SameBody (Some mends.b) (get_or new.set.arenas (id.arena - 1) None) = subst (λ o. SameBody o (get_or new.set.arenas (id.arena - 1) None)) at.there (only.bodies (id.arena - 1)) in
-        let lies = piece_body p in
-        record {
-          arena = id.arena - 1;
-          region = body.0.region;
-          there = region_at (id.arena - 1) new.set.arenas ∙ ap region_in body.1.0;
-          inside = (let e = body.1.1 in omega arith);
-          bytes = λ i low lt.
-              let off : ℕ = (p.off + i) in
-              let e : pool_offset mends.b.region.base id.pool + off ≡ piece.place - mends.a.region.base + i = ap (λ n. pool_offset n id.pool + off) base ∙ omega arith in
-              let same = body.1.2 id.pool off (omega arith) (omega arith) in
-              ap (λ n. get_or body.0.region.cells n None) (let x = body.1.1 in let here : piece.place - body.0.region.base + i ≡ pool_offset mends.b.region.base id.pool + off = (let y = e in omega arith) in here) ∙ (same ∙ (ap (λ n. get_or mends.b.region.cells n None) e ∙ mends.bytes i low lt));
-        }
+    home_again = home_by new (subst (λ o. SameBody o (get_or new.set.arenas (id.arena - 1) None)) mends.now.at.there (only.bodies (id.arena - 1)))
 
     stays_back : TakesBack piece None (heap_of old) (heap_of new)
     stays_back = record {
@@ -252,7 +254,7 @@ module _ (old : State) (k : IsKeptState old) (piece : PieceView) (loan : Has (pi
         others = unplaced.others;
         regions = inl (back_is, regions_are);
         back = subst (Removed (piece_extent piece) (loans_of old.set.arenas)) (sym only.loans) loans;
-        bytes = λ there. home_again;
+        bytes = λ stays. home_again;
       };
       regions = regions_are;
     }

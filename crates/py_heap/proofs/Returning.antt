@@ -1,6 +1,6 @@
 -- The last block of a pool is freed, and the pool goes back to its arena.
 use Rattle.std.proofs.Common.{◌≡◌, ◌≢◌, ℕ, ◌+◌, ◌-◌, ◌<◌, ◌≤◌, ◌⊎◌, Bool, true, inl, inr, List, [], ◌∷◌, ◌++◌, map, length, get_or, set, Option, Some, None, refl, sym, ap, subst, ◌∙◌, arith}
-use Rattle.std.proofs.lemmas.Bool.Decides.{eqb_tells}
+use Rattle.std.proofs.lemmas.Bool.Decides.{eqb_tells, leb_tells}
 use Rattle.std.proofs.lemmas.List.{map-set, length-set, get_or-set_same, get_or-set_other}
 use Rattle.raw_region.specs.Cells.{AllHome}
 use Rattle.raw_region.specs.Region.{RegionView, PieceView}
@@ -31,10 +31,12 @@ use Rattle.py_heap.specs.Frees.{CanComeBack, ComesBack, TakesBack, SitesAfter, R
 use Rattle.py_heap.proofs.Arenas.{line_at, line_there, started_there, at_once, arena_at, pool_ground, site_there, sites_cover, sites_same, sites_fewer}
 use Rattle.py_heap.proofs.Lending.{pool_inside, not_full_in, lists_at}
 use Rattle.py_heap.specs.Links.{pool_at, class_of, list_of, AreLinked}
-use Rattle.py_heap.specs.Relinks.{OnlyLinks}
+use Rattle.py_heap.specs.Relinks.{OnlyLinks, SameBody}
 use Rattle.py_heap.proofs.Ground.{has_same}
 use Rattle.py_heap.proofs.Linked.{class_is}
-use Rattle.py_heap.proofs.Freeing.{MendOf, After, mend_of}
+use Rattle.pool_core.specs.Calls.{InRun}
+use Rattle.arena_set.proofs.CallerLemmas.{inside}
+use Rattle.py_heap.proofs.Freeing.{MendOf, After, home_by, mend_of}
 
 -- a pool that went has no place
 gone_place : (old new : Tables) (x : PoolLine) → ((k : ℕ) → tally (has_number k) old.started ≤ 1) → Removed x old.started new.started → get_or (places_of new) x.number None ≡ None
@@ -47,6 +49,13 @@ gone_place old new x once removed = by_place (get_or (places_of new) x.number No
       let mine : has_number x.number x ≡ 1 = rw (number_self x.number) refl in
       let other : has_number x.number z.0 ≡ 1 = rw (z.1.1) (rw (number_self x.number) refl) in
       let le = tally_has (has_number x.number) z.0 new.started z.1.0 in absurd (omega arith)
+
+-- a cell behind a header is none of a pool's word for the next one
+behind_word : (b j k off : ℕ) → 48 ≤ off → off < 16384 → InRun (pool_offset b k + 16) 8 (pool_offset b j + off) → ⊥
+behind_word b j k off low high run = let from = run.0 in let to = run.1 in elim (eqb_tells j k) [
+  | inl w ↦ let e = w.1 in absurd (omega arith)
+  | inr w ↦ let n = w.1 in elim (leb_tells j k) [ inl v ↦ let le = v.1 in absurd (omega arith) | inr v ↦ let gt = v.1 in absurd (omega arith) ]
+]
 
 -- the region of an arena that stays or goes
 less_regions : (back : Option RegionView) (a b c : List Extent) → b ≡ a → RegionsLeft back b c → ((r : RegionView) → back ≡ Some r → AllHome r.cells) → RegionsLess back a c
@@ -278,6 +287,27 @@ module _ (old : State) (k : IsKeptState old) (piece : PieceView) (id : PoolId) (
       back_by None left is mine = inl (omega arith, left ∙ regions2)
       back_by (Some r) left is mine = inr (is, (region_extent r, (subst (λ l. Removed (region_extent r) l (regions_of new.set.arenas)) regions2 left, subst (PoolInRegion pool.place) (sym (mine r refl)) ground)))
 
+      -- where its arena stays, its cells behind headers do
+      left_at : get_or new.set.arenas (id.arena - 1) None ≡ b.gives.left
+      left_at = ap (λ l. get_or l (id.arena - 1) None) b.gives.arenas ∙ get_or-set_same set2.arenas (id.arena - 1) b.gives.left None (inside set2.arenas (id.arena - 1) b.gives.a b.gives.at.there)
+
+      body_by : (r : Option RegionView) (o : Option ArenaView) → KeptAfter b.gives.a id.pool r o → o ≡ b.gives.left → new.back ≡ old.back + went r → new.back ≡ old.back → SameBody (Some mends.b) (get_or new.set.arenas (id.arena - 1) None)
+      body_by (Some r) o kept is back_is stays = absurd (omega arith)
+      body_by None o kept is back_is stays =
+          let was : SameBody (Some mends.b) (get_or set2.arenas (id.arena - 1) None) = subst (λ x. SameBody x (get_or set2.arenas (id.arena - 1) None)) mends.now.at.there (only.bodies (id.arena - 1)) in
+          let same : was.0 ≡ b.gives.a = (let e = was.1.0 in let f = b.gives.at.there in cc) in
+          let alike : b.gives.a.region.base ≡ mends.b.region.base = ap (λ (x : ArenaView). x.region.base) (sym same) ∙ was.1.1 in
+          let base : kept.0.region.base ≡ mends.b.region.base = ap (λ (x : Extent). x.place) kept.1.1.extent ∙ alike in (
+            kept.0,
+            (
+              left_at ∙ (sym is ∙ kept.1.0),
+              base,
+              λ j off low high.
+                  kept.1.1.only (pool_offset mends.b.region.base j + off) (λ run. behind_word mends.b.region.base j id.pool off low high (subst (λ n. InRun (pool_offset n id.pool + 16) 8 (pool_offset mends.b.region.base j + off)) alike run))
+                  ∙ (ap (λ (x : ArenaView). get_or x.region.cells (pool_offset mends.b.region.base j + off) None) (sym same) ∙ was.1.2 j off low high),
+            ),
+          )
+
       pub returned_back : InPool (piece_extent piece) pool.place → TakesBack piece region (heap_of old) (heap_of new)
       returned_back lies = record {
         freed = record {
@@ -290,7 +320,7 @@ module _ (old : State) (k : IsKeptState old) (piece : PieceView) (id : PoolId) (
           others = (unplaced).others;
           regions = back_by region b.gives.regions b.back_is (λ q e. (b.gives.region q e).0);
           back = subst (λ l. Removed (piece_extent piece) (loans_of old.set.arenas) l) (sym b.loans) loans2;
-          bytes = λ there. let none = gone_place (tables_of old) (tables_of new) pool k.kept.orderly.numbers gone in absurd (cc);
+          bytes = λ stays. home_by old k piece (has_new (piece_extent piece) (loans_of set1.arenas) (loans_of old.set.arenas) loans) id can set1 full empty mends loans apart regions same sound new (body_by region b.gives.left b.gives.kept refl b.back_is stays);
         };
         regions = less_regions region (regions_of old.set.arenas) (regions_of set2.arenas) (regions_of new.set.arenas) regions2 b.gives.regions (λ r e. (b.gives.region r e).1);
       }
