@@ -1,43 +1,58 @@
 -- Where a text stands in a table.
-use Rattle.std.proofs.Common.{◌≡◌, ℕ, Bool, true, false, cond, ◌||◌, List, [], ◌∷◌, ◌++◌, length, get_or, slice_get, Some, refl, sym, ap, ◌∙◌, true≢false, inl, inr, ◌⊎◌, zero, suc, ◌<◌, ◌^◌, ◌-◌, arith, length-append}
-use Rattle.std.specs.Global.{Vec}
+use Rattle.std.proofs.Common.{◌≡◌, ℕ, Bool, true, false, cond, ◌||◌, List, [], ◌∷◌, ◌++◌, length, get_or, slice_get, Some, None, refl, sym, ap, ◌∙◌, true≢false, inl, inr, ◌⊎◌, zero, suc, ◌<◌, ◌^◌, ◌-◌, arith, length-append}
+use Rattle.smallvec.specs.SmallVec.{SmallVec}
 use Rattle.std.proofs.Math.Bool.{or-true}
 use Rattle.std.specs.List.{list_any, position}
 use Rattle.std.specs.Option.{option_map}
 use Rattle.std.specs.Str.{bytes_eq}
+use Rattle.std.proofs.lemmas.Grind.{common_steps}
 use Rattle.std.proofs.lemmas.List.Quantifiers.{position-Some}
 use Rattle.std.proofs.lemmas.Option.{slice_get-get_or, slice_get-map}
 use Rattle.std.proofs.lemmas.Slice.Eq.{bytes_eq-Decides}
 use Rattle.mem_base.specs.Texts.{texts_of, with_text, IsDistinct, IsTable, unknown}
 
-abbrev test : List ℕ → Vec ℕ → Bool
+abbrev pub test : List ℕ → SmallVec ℕ → Bool
 test t v = bytes_eq t v.items
 
-pub is_at : (t : List ℕ) (keys : List (Vec ℕ)) (i : ℕ) → position (test t) keys ≡ Some i → slice_get (texts_of keys) i ≡ Some t
+pub is_at : (t : List ℕ) (keys : List (SmallVec ℕ)) (i : ℕ) → position (test t) keys ≡ Some i → slice_get (texts_of keys) i ≡ Some t
 is_at t [] i h = absurd cc
 is_at t (k ∷ ks) i h =
     let p = position-Some (test t) (k ∷ ks) i k h in
     let at : slice_get (k ∷ ks) i ≡ Some (get_or (k ∷ ks) i k) = slice_get-get_or (k ∷ ks) i k p.0 in
     let e : t ≡ (get_or (k ∷ ks) i k).items = (bytes_eq-Decides t (get_or (k ∷ ks) i k).items).0 p.1 in
-    slice_get-map (λ v. v.items) (k ∷ ks) i ∙ ap (option_map (λ (v : Vec ℕ). v.items)) at ∙ ap Some (sym e)
+    slice_get-map (λ v. v.items) (k ∷ ks) i ∙ ap (option_map (λ (v : SmallVec ℕ). v.items)) at ∙ ap Some (sym e)
 
-any_map : (t : List ℕ) (keys : List (Vec ℕ)) → list_any (bytes_eq t) (texts_of keys) ≡ list_any (test t) keys
+-- where no place is found, none passes
+pub none_passes : (t : List ℕ) (keys : List (SmallVec ℕ)) → position (test t) keys ≡ None → false ≡ list_any (test t) keys
+none_passes t [] h = refl
+none_passes t (k ∷ ks) h = by (bytes_eq t k.items) refl (none_passes t ks)
+  where
+    by : (b : Bool) → bytes_eq t k.items ≡ b → (position (test t) ks ≡ None → false ≡ list_any (test t) ks) → false ≡ list_any (test t) (k ∷ ks)
+    by true e later = absurd (grind (arith, common_steps))
+    by false e later = later (grind (arith, common_steps)) ∙ ap (λ (b : Bool). b || list_any (test t) ks) (sym e)
+
+any_map : (t : List ℕ) (keys : List (SmallVec ℕ)) → list_any (bytes_eq t) (texts_of keys) ≡ list_any (test t) keys
 any_map t [] = refl
 any_map t (k ∷ ks) = ap (λ (b : Bool). bytes_eq t k.items || b) (any_map t ks)
 
-pub found_stays : (t : List ℕ) (keys : List (Vec ℕ)) → true ≡ list_any (test t) keys → texts_of keys ≡ with_text (texts_of keys) t
-found_stays t keys h = ap (λ (b : Bool). cond b (texts_of keys) (texts_of keys ++ t ∷ [])) (h ∙ sym (any_map t keys))
-
-texts_of-push : (keys : List (Vec ℕ)) (v : Vec ℕ) → texts_of (keys ++ v ∷ []) ≡ texts_of keys ++ v.items ∷ []
+texts_of-push : (keys : List (SmallVec ℕ)) (v : SmallVec ℕ) → texts_of (keys ++ v ∷ []) ≡ texts_of keys ++ v.items ∷ []
 texts_of-push [] v = refl
 texts_of-push (k ∷ ks) v = ap (λ (ts : List (List ℕ)). k.items ∷ ts) (texts_of-push ks v)
 
-pub new_goes_last : (t : List ℕ) (keys news : List (Vec ℕ)) (v : Vec ℕ) → v.items ≡ t → false ≡ list_any (test t) keys → news ≡ cond (list_any (test v.items) keys) keys (keys ++ v ∷ []) → texts_of news ≡ with_text (texts_of keys) t
-new_goes_last t keys news v is h at =
-    let none : list_any (test v.items) keys ≡ false = ap (λ (x : List ℕ). list_any (test x) keys) is ∙ sym h in
-    let last : news ≡ keys ++ v ∷ [] = at ∙ ap (λ (b : Bool). cond b keys (keys ++ v ∷ [])) none in
-    ap texts_of last ∙ texts_of-push keys v ∙ ap (λ (x : List ℕ). texts_of keys ++ x ∷ []) is
-    ∙ sym (ap (λ (b : Bool). cond b (texts_of keys) (texts_of keys ++ t ∷ [])) (any_map t keys ∙ sym h))
+-- the texts after a key is sought or added
+pub interned : (t : List ℕ) (keys news : List (SmallVec ℕ)) (v : SmallVec ℕ) → v.items ≡ t
+    → news ≡ cond (list_any (test v.items) keys) keys (keys ++ v ∷ []) → texts_of news ≡ with_text (texts_of keys) t
+interned t keys news v is at = by (list_any (test t) keys) refl
+  where
+    here : news ≡ cond (list_any (test t) keys) keys (keys ++ v ∷ [])
+    here = at ∙ ap (λ (x : List ℕ). cond (list_any (test x) keys) keys (keys ++ v ∷ [])) is
+    with : Bool → List (List ℕ)
+    with b = cond b (texts_of keys) (texts_of keys ++ t ∷ [])
+    by : (b : Bool) → list_any (test t) keys ≡ b → texts_of news ≡ with_text (texts_of keys) t
+    by true e = ap texts_of (here ∙ ap (λ (b : Bool). cond b keys (keys ++ v ∷ [])) e) ∙ ap with (sym (any_map t keys ∙ e))
+    by false e =
+        ap texts_of (here ∙ ap (λ (b : Bool). cond b keys (keys ++ v ∷ [])) e) ∙ texts_of-push keys v
+        ∙ ap (λ (x : List ℕ). texts_of keys ++ x ∷ []) is ∙ ap with (sym (any_map t keys ∙ e))
 
 any_at : (t : List ℕ) (ts : List (List ℕ)) (i : ℕ) → slice_get ts i ≡ Some t → list_any (bytes_eq t) ts ≡ true
 any_at t [] i h = absurd cc
@@ -47,7 +62,7 @@ any_at t (x ∷ xs) zero h =
 any_at t (x ∷ xs) (suc i) h = ap (λ (b : Bool). bytes_eq t x || b) (any_at t xs i h) ∙ or-true (bytes_eq t x)
 
 -- a text that no test finds stands nowhere
-pub is_absent : (t : List ℕ) (keys : List (Vec ℕ)) (i : ℕ) → false ≡ list_any (test t) keys → slice_get (texts_of keys) i ≡ Some t → ⊥
+pub is_absent : (t : List ℕ) (keys : List (SmallVec ℕ)) (i : ℕ) → false ≡ list_any (test t) keys → slice_get (texts_of keys) i ≡ Some t → ⊥
 is_absent t keys i h at = true≢false (sym (any_at t (texts_of keys) i at) ∙ any_map t keys ∙ sym h)
 
 slot : (ts : List (List ℕ)) (t text : List ℕ) (i : ℕ) → slice_get (ts ++ t ∷ []) i ≡ Some text → (slice_get ts i ≡ Some text) ⊎ ((i ≡ length ts) × (text ≡ t))
@@ -79,6 +94,6 @@ interned_table ts t few h = by (list_any (bytes_eq t) ts) refl
       few = omega (arith, few, length-append ts (t ∷ []));
     }
 
-pub stored_at : (t : List ℕ) (keys : List (Vec ℕ)) (v k : Vec ℕ) (i : ℕ) → v.items ≡ t → slice_get keys i ≡ Some k → bytes_eq v.items k.items ≡ true → slice_get (texts_of keys) i ≡ Some t
+pub stored_at : (t : List ℕ) (keys : List (SmallVec ℕ)) (v k : SmallVec ℕ) (i : ℕ) → v.items ≡ t → slice_get keys i ≡ Some k → bytes_eq v.items k.items ≡ true → slice_get (texts_of keys) i ≡ Some t
 stored_at t keys v k i is at same =
-    slice_get-map (λ v. v.items) keys i ∙ ap (option_map (λ (v : Vec ℕ). v.items)) at ∙ ap Some (sym ((bytes_eq-Decides v.items k.items).0 same) ∙ is)
+    slice_get-map (λ v. v.items) keys i ∙ ap (option_map (λ (v : SmallVec ℕ). v.items)) at ∙ ap Some (sym ((bytes_eq-Decides v.items k.items).0 same) ∙ is)

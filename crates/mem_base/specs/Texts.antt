@@ -2,10 +2,10 @@
 use Rattle.std.specs.Prelude.{◌≡◌, ℕ, List, [], ◌∷◌, ◌++◌, ◌<◌, ◌^◌, map, length, slice_get, codes, Some, if◌then◌else◌}
 use Rattle.std.specs.List.{list_any}
 use Rattle.std.specs.Str.{bytes_eq}
-use Rattle.std.specs.Global.{Vec}
+use Rattle.smallvec.specs.SmallVec.{SmallVec}
 
 -- the texts that a table's keys hold
-abbrev pub texts_of : List (Vec ℕ) → List (List ℕ)
+abbrev pub texts_of : List (SmallVec ℕ) → List (List ℕ)
 texts_of vs = map (λ v. v.items) vs
 
 -- no text stands twice

@@ -3,8 +3,11 @@
 //! grows. The unknown text, which stands for the file where there is no frame, is number 0.
 
 ghost use Rattle.std.specs.Prelude.{◌≡◌, ℕ, ◌<◌, ◌≤◌, ◌-◌, ◌^◌, ◌++◌, ◌∷◌, [], length, slice_get, IfOk, OnErr, OnOk, IsOk, IfNone, IfSome, Some, Contains, codes};
+ghost use Rattle.std.specs.List.{position};
+ghost use Rattle.std.specs.Str.{bytes_eq};
 
 use indexmap::IndexSet;
+use smallvec::SmallVec;
 use std::alloc::{AllocError, Global};
 use std::marker::Model;
 
@@ -12,11 +15,14 @@ use std::marker::Model;
 #[derive(Clone, Copy, Debug, Default, PartialEq, Eq, PartialOrd, Ord, Hash)]
 pub struct TextId(pub u32);
 
+// How many bytes of a text stand in the table itself. A longer text has memory of its own.
+const IN_PLACE: usize = 16;
+
 /// A table of distinct texts, seen as their list.
 #[derive(Drop)]
 pub struct Texts {
     alloc: Global,
-    texts: IndexSet<Vec<u8>>,
+    texts: IndexSet<SmallVec<u8, IN_PLACE>>,
 }
 
 impl Model for Texts {
@@ -30,6 +36,13 @@ impl Model for Texts {
     ghost invariant = { λ t. IsTable (texts_of t.texts.keys) };
 }
 
+// The index of the first of the texts that is this one.
+fn index_of(texts: &[SmallVec<u8, IN_PLACE>], text: &[u8]) -> Option<usize>
+    ensures { result ≡ position (λ v. bytes_eq text.now v.items) texts.now }
+{
+    texts.iter().position(|other| text == other.as_slice())
+}
+
 impl Texts {
     ghost use Rattle.mem_base.specs.Texts.{unknown, with_text, IsTable};
 
@@ -38,7 +51,7 @@ impl Texts {
         ensures { IfOk result (λ t. t ≡ unknown ∷ []) }
     {
         let mut texts = IndexSet::new(alloc);
-        texts.insert_full(Vec::from_slice(alloc, b"<unknown>")?)?;
+        texts.insert_full(SmallVec::from_slice(alloc, b"<unknown>")?)?;
         Ok(Texts { alloc, texts })
     }
 
@@ -49,10 +62,7 @@ impl Texts {
         ensures number { IfOk result (λ id. slice_get self.new id.0 ≡ Some text.now) }
         ensures err { OnErr result (self.new ≡ self.old) }
     {
-        if let Some(at) = self.texts.get_index_of(text) {
-            return Ok(TextId(at as u32));
-        }
-        let owned = Vec::from_slice(self.alloc, text)?;
+        let owned = SmallVec::from_slice(self.alloc, text)?;
         let (at, _) = self.texts.insert_full(owned)?;
         Ok(TextId(at as u32))
     }
@@ -81,7 +91,7 @@ impl Texts {
         ensures found { IfSome result (λ id. slice_get self.now id.0 ≡ Some text.now) }
         ensures absent { IfNone result ((i : ℕ) → slice_get self.now i ≡ Some text.now → ⊥) }
     {
-        match self.texts.get_index_of(text) {
+        match index_of(self.texts.as_slice(), text) {
             Some(at) => Some(TextId(at as u32)),
             None => None,
         }
