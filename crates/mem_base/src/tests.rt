@@ -19,6 +19,18 @@ fn a_text_has_one_number(rt: HostRuntime) -> Result<(), Fail> {
 }
 
 #[test]
+fn a_text_of_seventeen_bytes_has_one_number_too(rt: HostRuntime) -> Result<(), Fail> {
+    let mut texts = Texts::new(rt.alloc())?;
+    let sixteen = texts.intern(b"0123456789abcdef")?;
+    let seventeen = texts.intern(b"0123456789abcdefg")?;
+    let again = texts.intern(b"0123456789abcdefg")?;
+    assert_eq!(rt; (sixteen.0, seventeen.0, again.0), (1, 2, 2));
+    assert_eq!(rt; texts.get(seventeen), b"0123456789abcdefg".as_slice());
+    assert_eq!(rt; texts.find(b"0123456789abcdefg"), Some(seventeen));
+    Ok(())
+}
+
+#[test]
 fn a_list_keeps_the_order(rt: HostRuntime) -> Result<(), Fail> {
     let alloc = rt.alloc();
     let mut list = List::new(alloc);

@@ -86,7 +86,8 @@ impl Texts {
         }
     }
 
-    /// The number of the text, where it is in the table.
+    /// The number of the text, where it is in the table. It looks at one text after another, so that it needs
+    /// no memory for a key.
     pub fn find(&self, text: &[u8]) -> Option<TextId>
         ensures found { IfSome result (λ id. slice_get self.now id.0 ≡ Some text.now) }
         ensures absent { IfNone result ((i : ℕ) → slice_get self.now i ≡ Some text.now → ⊥) }
