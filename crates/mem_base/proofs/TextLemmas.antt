@@ -46,8 +46,10 @@ interned t keys news v is at = by (list_any (test t) keys) refl
   where
     here : news ≡ cond (list_any (test t) keys) keys (keys ++ v ∷ [])
     here = at ∙ ap (λ (x : List ℕ). cond (list_any (test x) keys) keys (keys ++ v ∷ [])) is
+
     with : Bool → List (List ℕ)
     with b = cond b (texts_of keys) (texts_of keys ++ t ∷ [])
+
     by : (b : Bool) → list_any (test t) keys ≡ b → texts_of news ≡ with_text (texts_of keys) t
     by true e = ap texts_of (here ∙ ap (λ (b : Bool). cond b keys (keys ++ v ∷ [])) e) ∙ ap with (sym (any_map t keys ∙ e))
     by false e =
