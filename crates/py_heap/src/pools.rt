@@ -105,8 +105,11 @@ impl Pools {
     fn lend_first(&mut self, class: u8) -> Option<Piece>
         requires class { class < 32 }
         requires kept { IsKeptState (state_of self.old) }
-        ensures none { IfNone result ((self.new ≡ self.old) × ((class_at (state_of self.old) class).spots ≡ [])) }
-        ensures some { IfSome result (λ piece. IsKeptState (state_of self.new) × Serves class NotAsked (Some piece) (heap_of (state_of self.old)) (heap_of (state_of self.new)) × (regions_of self.new.set.arenas ≡ regions_of self.old.set.arenas)) }
+        ensures none { IfNone result
+            ((self.new ≡ self.old) × ((class_at (state_of self.old) class).spots ≡ [])) }
+        ensures some { IfSome result (λ piece. IsKeptState (state_of self.new)
+            × Serves class NotAsked (Some piece) (heap_of (state_of self.old)) (heap_of (state_of self.new))
+            × (regions_of self.new.set.arenas ≡ regions_of self.old.set.arenas)) }
     {
         let pool = match self.classes[class as usize].first {
             Some(pool) => pool,
@@ -129,7 +132,9 @@ impl Pools {
         requires count { self.old.taken < 2 ^ 63 }
         ensures dry { IsNone result ↔ (usable_of self.old.set ≡ []) }
         ensures left { IfNone result (self.new ≡ self.old) }
-        ensures serves { IfSome result (λ piece. IsKeptState (state_of self.new) × Serves class NotAsked (Some piece) (heap_of (state_of self.old)) (heap_of (state_of self.new)) × (regions_of self.new.set.arenas ≡ regions_of self.old.set.arenas)) }
+        ensures serves { IfSome result (λ piece. IsKeptState (state_of self.new)
+            × Serves class NotAsked (Some piece) (heap_of (state_of self.old)) (heap_of (state_of self.new))
+            × (regions_of self.new.set.arenas ≡ regions_of self.old.set.arenas)) }
     {
         let pool = take_pool(&mut self.set)?;
         self.set.start(pool, class, self.taken);
@@ -158,7 +163,8 @@ impl Pools {
         requires room { HasRoomForArena (state_of self.old) }
         requires come { CanCome region (state_of self.old) }
         ensures kept { IsKeptState (state_of self.new) }
-        ensures added { IfOk result (λ total. Comes total region (state_of self.old) (state_of self.new) × (total ≡ total_at region.base) × (usable_of self.new.set ≢ [])) }
+        ensures added { IfOk result (λ total. Comes total region (state_of self.old) (state_of self.new)
+            × (total ≡ total_at region.base) × (usable_of self.new.set ≢ [])) }
         ensures given { OnOk result (self.new.given ≡ self.old.given + 1) }
         ensures left { IfErr result (λ back. (back ≡ region) × (state_of self.new ≡ state_of self.old)) }
     {
@@ -191,8 +197,10 @@ impl Pools {
         requires asked { (A.seen arenas.old).asked < 2 ^ 63 }
         requires held { AllIn (regions_of self.old.set.arenas) (A.seen arenas.old).out }
         ensures kept { IsKeptState (state_of self.new) }
-        ensures served { IfOk result (λ got. IsServed class got.grant got.piece (heap_of (state_of self.old)) (heap_of (state_of self.new)) (A.seen arenas.old) (A.seen arenas.new)) }
-        ensures failed { OnErr result (IsFailed (heap_of (state_of self.old)) (heap_of (state_of self.new)) (A.seen arenas.old) (A.seen arenas.new)) }
+        ensures served { IfOk result (λ got. IsServed class got.grant got.piece
+            (heap_of (state_of self.old)) (heap_of (state_of self.new)) (A.seen arenas.old) (A.seen arenas.new)) }
+        ensures failed { OnErr result (IsFailed
+            (heap_of (state_of self.old)) (heap_of (state_of self.new)) (A.seen arenas.old) (A.seen arenas.new)) }
     {
         match arenas.ask() {
             Ok(region) => {
@@ -234,8 +242,10 @@ impl Pools {
         requires asked { (A.seen arenas.old).asked < 2 ^ 63 }
         requires held { AllIn (regions_of self.old.set.arenas) (A.seen arenas.old).out }
         ensures kept { IsKeptState (state_of self.new) }
-        ensures served { IfOk result (λ got. IsServed class got.grant got.piece (heap_of (state_of self.old)) (heap_of (state_of self.new)) (A.seen arenas.old) (A.seen arenas.new)) }
-        ensures failed { OnErr result (IsFailed (heap_of (state_of self.old)) (heap_of (state_of self.new)) (A.seen arenas.old) (A.seen arenas.new)) }
+        ensures served { IfOk result (λ got. IsServed class got.grant got.piece
+            (heap_of (state_of self.old)) (heap_of (state_of self.new)) (A.seen arenas.old) (A.seen arenas.new)) }
+        ensures failed { OnErr result (IsFailed
+            (heap_of (state_of self.old)) (heap_of (state_of self.new)) (A.seen arenas.old) (A.seen arenas.new)) }
     {
         self.reserve_arena()?;
         self.ask_arena(class, arenas)
@@ -255,8 +265,10 @@ impl Pools {
         requires asked { (A.seen arenas.old).asked < 2 ^ 63 }
         requires held { AllIn (regions_of self.old.set.arenas) (A.seen arenas.old).out }
         ensures kept { IsKeptState (state_of self.new) }
-        ensures served { IfOk result (λ got. IsServed class got.grant got.piece (heap_of (state_of self.old)) (heap_of (state_of self.new)) (A.seen arenas.old) (A.seen arenas.new)) }
-        ensures failed { OnErr result (IsFailed (heap_of (state_of self.old)) (heap_of (state_of self.new)) (A.seen arenas.old) (A.seen arenas.new)) }
+        ensures served { IfOk result (λ got. IsServed class got.grant got.piece
+            (heap_of (state_of self.old)) (heap_of (state_of self.new)) (A.seen arenas.old) (A.seen arenas.new)) }
+        ensures failed { OnErr result (IsFailed
+            (heap_of (state_of self.old)) (heap_of (state_of self.new)) (A.seen arenas.old) (A.seen arenas.new)) }
     {
         match self.lend_new(class) {
             Some(piece) => Ok(HeapGot {
@@ -280,8 +292,10 @@ impl Pools {
         requires asked { (A.seen arenas.old).asked < 2 ^ 63 }
         requires held { AllIn (regions_of self.old.set.arenas) (A.seen arenas.old).out }
         ensures kept { IsKeptState (state_of self.new) }
-        ensures served { IfOk result (λ got. IsServed class got.grant got.piece (heap_of (state_of self.old)) (heap_of (state_of self.new)) (A.seen arenas.old) (A.seen arenas.new)) }
-        ensures failed { OnErr result (IsFailed (heap_of (state_of self.old)) (heap_of (state_of self.new)) (A.seen arenas.old) (A.seen arenas.new)) }
+        ensures served { IfOk result (λ got. IsServed class got.grant got.piece
+            (heap_of (state_of self.old)) (heap_of (state_of self.new)) (A.seen arenas.old) (A.seen arenas.new)) }
+        ensures failed { OnErr result (IsFailed
+            (heap_of (state_of self.old)) (heap_of (state_of self.new)) (A.seen arenas.old) (A.seen arenas.new)) }
     {
         match self.lend_first(class) {
             Some(piece) => Ok(HeapGot {
@@ -306,7 +320,8 @@ impl Pools {
     /// How many arenas there were and are, and how many blocks are lent.
     pub(crate) fn counts(&self) -> Counts
         requires { IsKeptState (state_of self.now) }
-        ensures arenas { (result.given ≡ self.now.given) × (result.back ≡ self.now.back) × (result.most ≡ self.now.most) }
+        ensures arenas { (result.given ≡ self.now.given)
+            × (result.back ≡ self.now.back) × (result.most ≡ self.now.most) }
         ensures out { result.out ≡ length (regions_of self.now.set.arenas) }
         ensures pooled { result.pooled ≡ length (loans_of self.now.set.arenas) }
     {
