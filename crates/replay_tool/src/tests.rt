@@ -501,34 +501,6 @@ summary traced 0 peak 0
             arenas: (0, 0),
             raws: (4, 1),
         },
-        // Three picks of a finished track are passed over, and the pick behind them counts.
-        Replayed {
-            trace: b"pymtrace 1
-track a
-acquire
-release
-track b
-acquire
-track c
-acquire
-pick b 1
-pick b 3
-pick c 1
-",
-            report: b"1 b acquire = ok
-2 c acquire = ok
-3 a acquire = ok
-4 a release = ok
-summary events 4 status 0
-summary lock free
-summary blocks 0 bytes 0
-summary arenas given 0 back 0 most 0
-summary traced 0 peak 0
-",
-            status: 0,
-            arenas: (0, 0),
-            raws: (0, 0),
-        },
     ];
     for (at, row) in rows.iter().enumerate() {
         let given = replay(rt.alloc(), row.trace)?;
