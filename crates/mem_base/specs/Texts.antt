@@ -2,11 +2,11 @@
 use Rattle.std.specs.Prelude.{◌≡◌, ℕ, List, [], ◌∷◌, ◌++◌, ◌<◌, ◌^◌, map, length, slice_get, codes, Some, if◌then◌else◌}
 use Rattle.std.specs.List.{list_any}
 use Rattle.std.specs.Str.{bytes_eq}
-use Rattle.smallvec.specs.SmallVec.{SmallVec}
+use Rattle.mem_base.specs.declared.texts.Key.{Key}
 
 -- the texts that a table's keys hold
-abbrev pub texts_of : List (SmallVec ℕ) → List (List ℕ)
-texts_of vs = map (λ v. v.items) vs
+abbrev pub texts_of : List Key → List (List ℕ)
+texts_of keys = map (λ key. key.bytes.items) keys
 
 -- no text stands twice
 abbrev pub IsDistinct : List (List ℕ) → Type 0

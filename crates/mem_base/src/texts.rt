@@ -5,10 +5,13 @@
 ghost use Rattle.std.specs.Prelude.{◌≡◌, ℕ, ◌<◌, ◌≤◌, ◌-◌, ◌^◌, ◌++◌, ◌∷◌, [], length, slice_get, IfOk, OnErr, OnOk, IsOk, IfNone, IfSome, Some, Contains, codes};
 ghost use Rattle.std.specs.List.{position};
 ghost use Rattle.std.specs.Str.{bytes_eq};
+ghost use Rattle.std.specs.Hash.{on_Alike, same_Alike};
+ghost use Rattle.std.proofs.lemmas.Slice.Eq.{bytes_eq-Decides};
 
 use indexmap::IndexSet;
 use smallvec::SmallVec;
 use std::alloc::{AllocError, Global};
+use std::hash::{Hash, Hasher};
 use std::marker::Model;
 
 /// The number of a text in its table, from 0.
@@ -18,11 +21,35 @@ pub struct TextId(pub u32);
 // How many bytes of a text stand in the table itself. A longer text has memory of its own.
 const IN_PLACE: usize = 16;
 
+// A text of a table. Its bytes are hashed all at once, and not one after another.
+#[derive(Drop, PartialEq, Eq)]
+struct Key {
+    bytes: SmallVec<u8, IN_PLACE>,
+}
+
+impl Hash for Key {
+    ghost hash_input = { λ key. key.bytes.items ∷ [] };
+
+    ghost respects_eq = { (on_Alike (λ k. k.bytes.items) (same_Alike (λ b. b ∷ []) bytes_eq-Decides)).fed };
+
+    fn hash<H: Hasher>(&self, state: &mut H) {
+        state.write(self.bytes.as_slice());
+    }
+}
+
+// The key of a text.
+fn key_of(alloc: Global, text: &[u8]) -> Result<Key, AllocError>
+    ensures { IfOk result (λ key. key.bytes.items ≡ text.now) }
+{
+    let bytes = SmallVec::from_slice(alloc, text)?;
+    Ok(Key { bytes })
+}
+
 /// A table of distinct texts, seen as their list.
 #[derive(Drop)]
 pub struct Texts {
     alloc: Global,
-    texts: IndexSet<SmallVec<u8, IN_PLACE>>,
+    texts: IndexSet<Key>,
 }
 
 impl Model for Texts {
@@ -37,10 +64,12 @@ impl Model for Texts {
 }
 
 // The index of the first of the texts that is this one.
-fn index_of(texts: &[SmallVec<u8, IN_PLACE>], text: &[u8]) -> Option<usize>
-    ensures { result ≡ position (λ v. bytes_eq text.now v.items) texts.now }
+fn index_of(texts: &[Key], text: &[u8]) -> Option<usize>
+    ensures { result ≡ position (λ key. bytes_eq text.now key.bytes.items) texts.now }
 {
-    texts.iter().position(|other| text == other.as_slice())
+    texts
+        .iter()
+        .position(|other| text == other.bytes.as_slice())
 }
 
 impl Texts {
@@ -51,7 +80,7 @@ impl Texts {
         ensures { IfOk result (λ t. t ≡ unknown ∷ []) }
     {
         let mut texts = IndexSet::new(alloc);
-        texts.insert_full(SmallVec::from_slice(alloc, b"<unknown>")?)?;
+        texts.insert_full(key_of(alloc, b"<unknown>")?)?;
         Ok(Texts { alloc, texts })
     }
 
@@ -62,7 +91,7 @@ impl Texts {
         ensures number { IfOk result (λ id. slice_get self.new id.0 ≡ Some text.now) }
         ensures err { OnErr result (self.new ≡ self.old) }
     {
-        let owned = SmallVec::from_slice(self.alloc, text)?;
+        let owned = key_of(self.alloc, text)?;
         let (at, _) = self.texts.insert_full(owned)?;
         Ok(TextId(at as u32))
     }
@@ -81,7 +110,7 @@ impl Texts {
         ensures { slice_get self.now id.0 ≡ Some result.now }
     {
         match self.texts.get_index(id.0 as usize) {
-            Some(text) => text.as_slice(),
+            Some(key) => key.bytes.as_slice(),
             None => unreachable!(),
         }
     }
