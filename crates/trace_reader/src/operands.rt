@@ -1,6 +1,6 @@
 //! Each kind of operand of a line, read from its word: `Ok` of what the word spells, or the first
 //! cause for which it is refused. Words are bytes, and nothing is copied but the bytes of a poke.
-ghost use Rattle.std.specs.Prelude.{◌≡◌, ◌*◌, ◌+◌, ◌-◌, ◌^◌, ◌≤◌, ◌&&◌, nat_lt, length, IfOk, Some, None, if◌then◌else◌};
+ghost use Rattle.std.specs.Prelude.{◌≡◌, ◌*◌, ◌+◌, ◌-◌, ◌^◌, ◌≤◌, ◌&&◌, ◌∷◌, ℕ, List, nat_lt, length, IfOk, Some, None, if◌then◌else◌};
 ghost use Rattle.std.specs.List.{list_all};
 ghost use Rattle.mem_base.specs.Offset.{IsOffset};
 ghost use Rattle.trace_model.specs.Operands.{is_between, is_name_byte, digits_from, number_at, offset_at};
@@ -8,7 +8,7 @@ ghost use Rattle.trace_model.specs.Operands.{forward_at, backward_at, number_in,
 ghost use Rattle.trace_model.specs.Operands.{times_at, name_at, letter_at, side_at, hex_from, hex_at};
 ghost use Rattle.trace_model.specs.Operands.{digit_of};
 ghost use Rattle.trace_model.specs.Reading.{head_at};
-ghost use Rattle.trace_reader.specs.Answers.{Gives};
+ghost use Rattle.trace_reader.specs.Answers.{Gives, head_among};
 
 use crate::error::LineError;
 use mem_base::limits::{MAX_NAME, MAX_PICKS, MAX_REACH, MAX_REFUSAL};
@@ -16,19 +16,38 @@ use mem_base::{Letter, List, Side};
 use std::alloc::Global;
 use trace_model::{Head, Keyword, TraceCause};
 
-/// What the first word of a line begins.
+// The heads whose words begin with this letter.
+fn heads_with(letter: u8) -> &'static [Head]
+    ensures { (rest : List ℕ) → head_among result.now (letter ∷ rest) ≡ head_at (letter ∷ rest) }
+{
+    match letter {
+        b'a' => &[Head::Op(Keyword::Acquire)],
+        b'c' => &[Head::Op(Keyword::Calloc)],
+        b'f' => &[Head::Op(Keyword::Free)],
+        b'h' => &[Head::Op(Keyword::Heap)],
+        b'm' => &[Head::Op(Keyword::Malloc)],
+        b'p' => &[Head::Pick, Head::Op(Keyword::Poke), Head::Op(Keyword::Peek)],
+        b'r' => &[
+            Head::Op(Keyword::Release),
+            Head::Op(Keyword::Realloc),
+            Head::Op(Keyword::Refuse),
+        ],
+        b't' => &[Head::Track],
+        _ => &[],
+    }
+}
+
+/// What the first word of a line begins. It is compared only with the words that have its first letter.
 pub fn head(word: &[u8]) -> Result<Head, TraceCause>
     ensures { result ≡ head_at word.now }
 {
-    if word == Head::Track.word().as_bytes() {
-        return Ok(Head::Track);
-    }
-    if word == Head::Pick.word().as_bytes() {
-        return Ok(Head::Pick);
-    }
-    for keyword in &Keyword::all() {
-        if word == keyword.word().as_bytes() {
-            return Ok(Head::Op(*keyword));
+    let Some((letter, _)) = word.split_first() else {
+        return Err(TraceCause::UnknownWord);
+    };
+    let heads = heads_with(*letter);
+    for head in heads {
+        if word == head.word().as_bytes() {
+            return Ok(*head);
         }
     }
     Err(TraceCause::UnknownWord)

@@ -24,10 +24,11 @@ pub fn next_line(bytes: &[u8]) -> Option<(&[u8], &[u8])>
     }
 }
 
-fn is_plain(byte: u8) -> bool
-    ensures { result ≡ is_between 32 126 byte }
+// Whether a byte prints as a sign, which a blank does not.
+fn is_sign(byte: u8) -> bool
+    ensures { result ≡ is_between 33 126 byte }
 {
-    byte >= 32 && byte <= 126
+    byte >= 33 && byte <= 126
 }
 
 /// The parts of a line between its blanks, in place of what the buffer held.
@@ -38,10 +39,10 @@ pub fn cut<'a>(line: &'a [u8], words: &mut Vec<&'a [u8]>) -> Result<(), LineErro
     let mut start = 0;
     for at in 0..line.len() {
         let byte = line[at];
-        if !is_plain(byte) {
-            return Err(LineError::Wrong(TraceCause::BadByte));
-        }
-        if byte == b' ' {
+        if !is_sign(byte) {
+            if byte != b' ' {
+                return Err(LineError::Wrong(TraceCause::BadByte));
+            }
             words.push(&line[start..at])?;
             start = at + 1;
         }

@@ -1,7 +1,8 @@
 use Rattle.std.proofs.Common.{◌≡◌, drop}
-use Rattle.trace_model.specs.Plain.{keywords, keyword_among}
+use Rattle.trace_model.specs.Reading.{head_at}
+use Rattle.trace_reader.specs.Answers.{head_among}
 use Rattle.trace_reader.proofs.operands.head.Given as goal
 
--- the keywords left give what all give
-abbrev pub invariant-loop-keyword : goal.invariant-loop-keyword
-invariant-loop-keyword l = keyword_among (drop l.keyword-index keywords) l.word ≡ keyword_among keywords l.word
+-- the heads left give what all give
+abbrev pub invariant-loop-head : goal.invariant-loop-head
+invariant-loop-head l = head_among (drop l.head-index l.heads) l.word ≡ head_at l.word
