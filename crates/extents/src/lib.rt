@@ -27,7 +27,8 @@ pub fn others_stay()
 
 /// An extent that meets none of a list keeps the list apart, and each one that goes leaves it apart.
 pub fn lists_stay_apart()
-    ensures comes { (e : Extent) (old new : List Extent) → AreApart old → MeetsNone e old → Inserted e old new
+    ensures comes { (e : Extent) (old new : List Extent)
+        → AreApart old → MeetsNone e old → Inserted e old new
         → AreApart new }
     ensures goes { (e : Extent) (old new : List Extent) → AreApart old → Removed e old new
         → AreApart new × MeetsNone e new }

@@ -10,13 +10,6 @@ use Rattle.layout_model.proofs.Tallies.{starts_less}
 some_same : {X : Type 0} (x y : X) → Some x ≡ Some y → x ≡ y
 some_same x y e = cc
 
-pub found_pool : (k : ℕ) (ps : List Used) (p : Used) → find_pool k ps ≡ Some p → p.pool ≡ k
-found_pool k [] p = λ e. cc
-found_pool k (q ∷ ps) p = elim (eqb_tells q.pool k) as (λ _. cond (eqb q.pool k) (Some q) (find_pool k ps) ≡ Some p → p.pool ≡ k) [
-  | inl w ↦ rw w.0 (λ e. let same : q ≡ p = some_same q p e in rw (← same) w.1)
-  | inr w ↦ rw w.0 (λ e. found_pool k ps p e)
-]
-
 pub tally_without : (f : Used → ℕ) (k : ℕ) (ps : List Used) (p : Used) → find_pool k ps ≡ Some p → tally f (without_pool k ps) + f p ≡ tally f ps
 tally_without f k [] p = λ e. cc
 tally_without f k (q ∷ ps) p = elim (eqb_tells q.pool k) as (λ _. cond (eqb q.pool k) (Some q) (find_pool k ps) ≡ Some p → tally f (cond (eqb q.pool k) ps (q ∷ without_pool k ps)) + f p ≡ f q + tally f ps) [

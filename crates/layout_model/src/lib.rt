@@ -14,7 +14,8 @@ ghost use Rattle.layout_model.specs.Sizes.{ClassesAreLeast, PoolsHold};
 ghost use Rattle.layout_model.specs.Geometry.{AddressTellsSlot, PoolsAreInArenas};
 ghost use Rattle.layout_model.specs.Layout.{empty_layout};
 ghost use Rattle.layout_model.specs.Sound.{IsSound};
-ghost use Rattle.layout_model.specs.Laws.{PlaceKeepsSound, UnplaceKeepsSound, OnlyRefusalsPlaceNothing, RequestsFitTheirClass};
+ghost use Rattle.layout_model.specs.Laws.{PlaceKeepsSound, UnplaceKeepsSound};
+ghost use Rattle.layout_model.specs.Laws.{OnlyRefusalsPlaceNothing, RequestsFitTheirClass};
 ghost use Rattle.layout_model.specs.Examples.{ArenasAreUsedUp, ArenasRiseInFreePools, TheLastArenaStays};
 
 /// A small request's class is the least whose blocks are large enough.

@@ -1,5 +1,7 @@
-ghost use Rattle.std.specs.Prelude.{◌≡◌, ℕ, ◌+◌, ◌<◌, max, [], ◌∷◌, ◌++◌, List, Contains, IfOk, OnOk, OnErr};
-ghost use Rattle.links.specs.Nodes.{first_of, CountsNeighbours, IsChain, IsInsertedAfter, IsInsertedBefore, IsNext, IsPrev, IsRemoved};
+ghost use Rattle.std.specs.Prelude.{◌≡◌, ℕ, ◌+◌, ◌<◌, max, [], ◌∷◌};
+ghost use Rattle.std.specs.Prelude.{◌++◌, List, Contains, IfOk, OnOk, OnErr};
+ghost use Rattle.links.specs.Nodes.{first_of, CountsNeighbours, IsChain, IsInsertedAfter};
+ghost use Rattle.links.specs.Nodes.{IsInsertedBefore, IsNext, IsPrev, IsRemoved};
 ghost use Rattle.links.specs.Links.{front_after};
 
 use crate::steps::Steps;

@@ -1,8 +1,10 @@
 // The links of the nodes, and the count of the nodes that are looked at.
-ghost use Rattle.std.specs.Prelude.{◌≡◌, ◌++◌, ℕ, ◌+◌, ◌-◌, ◌<◌, IfOk, OnErr, OnOk, None, length, replicate, set};
+ghost use Rattle.std.specs.Prelude.{◌≡◌, ◌++◌, ℕ, ◌+◌, ◌-◌, ◌<◌};
+ghost use Rattle.std.specs.Prelude.{IfOk, OnErr, OnOk, None, length, replicate, set};
 ghost use Rattle.std.specs.Option.{ForSome};
 ghost use Rattle.links.specs.Nodes.{count_of};
-ghost use Rattle.links.specs.Links.{links_at, next_in, next_set, prev_in, prev_set, put_after, put_before, put_first, taken_out, with_next, with_prev};
+ghost use Rattle.links.specs.Links.{links_at, next_in, next_set, prev_in, prev_set, put_after};
+ghost use Rattle.links.specs.Links.{put_before, put_first, taken_out, with_next, with_prev};
 
 use crate::steps::Steps;
 use std::alloc::{AllocError, Global};

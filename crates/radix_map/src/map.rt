@@ -1,5 +1,6 @@
 //! Which arena has an address.
-ghost use Rattle.std.specs.Prelude.{◌≡◌, ◌+◌, ◌%◌, ◌^◌, ◌≤◌, [], MatchOption, MatchResult, IfOk, IsTrue, ◌↔◌};
+ghost use Rattle.std.specs.Prelude.{◌≡◌, ◌+◌, ◌%◌, ◌^◌, ◌≤◌, []};
+ghost use Rattle.std.specs.Prelude.{MatchOption, MatchResult, IfOk, IsTrue, ◌↔◌};
 ghost use Rattle.extents.specs.Sums.{Inserted};
 ghost use Rattle.radix_map.specs.Map.{HasArena, HasNone, IsFree, IsMarked, Unmarks};
 
@@ -45,7 +46,8 @@ impl RadixMap {
         requires page { base % 4096 ≡ 0 }
         requires below { base + 1048576 ≤ 2 ^ 48 }
         requires free { IsFree base self.old }
-        ensures { MatchResult result (λ _. Inserted (record { arena = index; base = base }) self.old self.new)
+        ensures { MatchResult result
+            (λ _. Inserted (record { arena = index; base = base }) self.old self.new)
             (λ _. self.new ≡ self.old) }
     {
         let at = (base / MIB) as usize;

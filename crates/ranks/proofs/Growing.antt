@@ -1,6 +1,5 @@
 -- Ranks that are all as before.
-use Rattle.std.proofs.Common.{◌≡◌, ℕ, zero, suc, ◌≤◌, List, [], ◌∷◌, ◌++◌, get_or, length, Option, refl, sym, ap, subst, ◌∙◌, arith}
-use Rattle.links.specs.Nodes.{times}
+use Rattle.std.proofs.Common.{◌≡◌, ℕ, zero, suc, ◌≤◌, List, [], ◌∷◌, ◌++◌, length, Option, refl, sym, ap, subst, ◌∙◌, arith}
 use Rattle.ranks.specs.Ranks.{IsRanked, Rising, last_with, rank_in}
 
 -- one more rank of 0

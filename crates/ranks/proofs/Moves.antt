@@ -11,6 +11,11 @@ use Rattle.ranks.proofs.Lists.{Around, Behind, RaisedTo, around, last-append, la
 pub part : (xs : List ℕ) (x : ℕ) → 1 ≤ times x xs → Split xs x
 part xs x h = split xs x (Contains-times xs xs x refl h)
 
+-- a node that stands once is in no other part
+only_here : (xs : List ℕ) (x : ℕ) (s : Split xs x) → times x xs ≤ 1 → (times x s.before ≡ 0) × (times x s.after ≡ 0)
+only_here xs x s once =
+    let t = times-append x s.before (x ∷ s.after) in let u = times-here x s.after in let e = ap (times x) s.all in (omega arith, omega arith)
+
 -- ranks after one was set
 pub rank_set : (ranks : List ℕ) (node rank x : ℕ) → x ≢ node → rank_in (set ranks node rank) x ≡ rank_in ranks x
 rank_set ranks node rank x other = get_or-set_other ranks node x rank 0 other
@@ -103,10 +108,10 @@ module _ (nodes ranks : List ℕ) (lasts : List (Option ℕ)) (room node : ℕ) 
 
   -- the node is not in the other parts
   out_before : times node (at).before ≡ 0
-  out_before = let o = kept.once node in let t = times-append node (at).before (node ∷ (at).after) in let u = times-here node (at).after in let e = ap (times node) (at).all in omega arith
+  out_before = (only_here nodes node at (kept.once node)).0
 
   out_after : times node (at).after ≡ 0
-  out_after = let o = kept.once node in let t = times-append node (at).before (node ∷ (at).after) in let u = times-here node (at).after in let e = ap (times node) (at).all in omega arith
+  out_after = (only_here nodes node at (kept.once node)).1
 
   rising_at : Rising (rank_in ranks) 1 ((at).before ++ node ∷ (at).after)
   rising_at = subst (Rising (rank_in ranks) 1) (at).all kept.rising
@@ -196,10 +201,10 @@ module _ (nodes ranks : List ℕ) (lasts : List (Option ℕ)) (room node : ℕ) 
   it = part nodes node there
 
   no_before : times node (it).before ≡ 0
-  no_before = let o = kept.once node in let t = times-append node (it).before (node ∷ (it).after) in let u = times-here node (it).after in let e = ap (times node) (it).all in omega arith
+  no_before = (only_here nodes node it (kept.once node)).0
 
   no_after : times node (it).after ≡ 0
-  no_after = let o = kept.once node in let t = times-append node (it).before (node ∷ (it).after) in let u = times-here node (it).after in let e = ap (times node) (it).all in omega arith
+  no_after = (only_here nodes node it (kept.once node)).1
 
   near : Around (rank_in ranks) 1 (it).before node (it).after
   near = around (rank_in ranks) 1 (it).before node (it).after (subst (Rising (rank_in ranks) 1) (it).all kept.rising)

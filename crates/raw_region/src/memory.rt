@@ -1,7 +1,8 @@
 //! The memory itself, behind a raw pointer. The pointer is passed beside the owner of the bytes, which is
 //! all ghost state. So a piece owns its part of the memory at the pointer of its region, and `cut` and
 //! `join` move only that ownership.
-ghost use Rattle.std.specs.Prelude.{◌≡◌, ℕ, ◌+◌, ◌^◌, ◌<◌, ◌≤◌, List, Option, Some, None, map, length, take};
+ghost use Rattle.std.specs.Prelude.{◌≡◌, ℕ, ◌+◌, ◌^◌, ◌<◌, ◌≤◌};
+ghost use Rattle.std.specs.Prelude.{List, Option, Some, None, map, length, take};
 ghost use Rattle.std.specs.Prelude.{drop, get_or, slice_set};
 ghost use Rattle.std.specs.Borrow.{sem};
 ghost use denote.RawPtr.{Ptr};
@@ -45,7 +46,8 @@ impl Cells {
 
     pub(crate) fn write(&mut self, first: *mut u8, off: usize, byte: u8)
         requires { (first ≡ self.old.at) × IsHome self.old.cells off }
-        ensures { (self.new.at ≡ self.old.at) × (self.new.cells ≡ slice_set self.old.cells off (Some byte)) }
+        ensures { (self.new.at ≡ self.old.at)
+            × (self.new.cells ≡ slice_set self.old.cells off (Some byte)) }
     {
         unsafe { *first.add(off) = byte }
     }

@@ -1,5 +1,6 @@
 //! A block of memory under addresses of its own.
-ghost use Rattle.std.specs.Prelude.{◌≡◌, ◌+◌, ◌-◌, ◌^◌, ◌<◌, ◌≤◌, length, map, get_or, slice_set, replicate, Some, None, IfOk};
+ghost use Rattle.std.specs.Prelude.{◌≡◌, ◌+◌, ◌-◌, ◌^◌, ◌<◌, ◌≤◌};
+ghost use Rattle.std.specs.Prelude.{length, map, get_or, slice_set, replicate, Some, None, IfOk};
 ghost use Rattle.std.specs.Int.{to_le_bytes, w64};
 ghost use Rattle.raw_region.specs.Cells.{IsHome, AtHome, AllHome, AreLent, away, bytes_of, with_run, word_at, zeroed};
 

@@ -1,4 +1,4 @@
-use Rattle.std.proofs.Common.{◌∙◌, ap, length, max, arith}
+use Rattle.std.proofs.Common.{◌∙◌, ap, length, arith}
 use Rattle.std.proofs.lemmas.List.{length_push}
 use Rattle.ranks.specs.Ranks.{rank_in}
 use Rattle.ranks.proofs.Growing.{rank_more}

@@ -1,4 +1,4 @@
-use Rattle.std.proofs.Common.{◌≡◌, sym, subst, arith}
+use Rattle.std.proofs.Common.{sym, subst, arith}
 use Rattle.ranks.specs.Ranks.{IsRanked}
 use Rattle.ranks.proofs.Growing.{still_ranked}
 use Rattle.ranks.proofs.ranks.Ranks.reserve.Goals as goal
