@@ -1,6 +1,6 @@
 //! Numbers, bytes, names, and the words of operations. An operation's line is spelt here as the trace
 //! that was read spells it, with keywords from the one table of `trace_model`.
-ghost use Rattle.std.specs.Prelude.{◌≡◌, ◌++◌, ◌∷◌, ◌<◌, OnOk, OnErr, decimal};
+ghost use Rattle.std.specs.Prelude.{◌≡◌, ◌+◌, ◌%◌, ◌++◌, ◌∷◌, ◌<◌, OnOk, OnErr, decimal};
 ghost use Rattle.std.specs.Fmt.{signed_decimal};
 ghost use Rattle.trace_model.specs.Operands.{hex_word, letter_word, side_word, glyph};
 ghost use Rattle.trace_model.specs.Plain.{action_of, keyword_text, text_at, refuse};
@@ -15,14 +15,53 @@ use trace_model::Keyword;
 
 // ---- numbers and bytes
 
-/// Adds a number in decimal to the end of a text. The error is that there was no memory for it, and
-/// the text is as it was.
-pub fn push_number(text: &mut Vec<u8>, n: u64) -> Result<(), AllocError>
+// The last digit of a number.
+fn last(n: u64) -> u8
+    ensures { result ≡ 48 + n % 10 }
+{
+    b'0' + (n % 10) as u8
+}
+
+// Adds a number of many digits.
+fn push_long(text: &mut Vec<u8>, n: u64) -> Result<(), AllocError>
     ensures ok { OnOk result (text.new.items ≡ text.old.items ++ decimal n) }
     ensures err { OnErr result (text.new.items ≡ text.old.items) }
 {
     let mut buffer = Buffer::new();
     text.extend_from_slice(buffer.format(n).as_bytes())
+}
+
+/// Adds a number in decimal to the end of a text. The error is that there was no memory for it, and
+/// the text is as it was. Most numbers have few digits, which are written where they will stand.
+#[tactic(auto, using(crate::proofs::Decimals::few_digits))]
+pub fn push_number(text: &mut Vec<u8>, n: u64) -> Result<(), AllocError>
+    ensures ok { OnOk result (text.new.items ≡ text.old.items ++ decimal n) }
+    ensures err { OnErr result (text.new.items ≡ text.old.items) }
+{
+    match n {
+        0..=9 => text.extend_from_slice(&[last(n)]),
+        10..=99 => text.extend_from_slice(&[last(n / 10), last(n)]),
+        100..=999 => text.extend_from_slice(&[last(n / 100), last(n / 10), last(n)]),
+        1000..=9999 => {
+            text.extend_from_slice(&[last(n / 1000), last(n / 100), last(n / 10), last(n)])
+        }
+        10_000..=99_999 => text.extend_from_slice(&[
+            last(n / 10_000),
+            last(n / 1000),
+            last(n / 100),
+            last(n / 10),
+            last(n),
+        ]),
+        100_000..=999_999 => text.extend_from_slice(&[
+            last(n / 100_000),
+            last(n / 10_000),
+            last(n / 1000),
+            last(n / 100),
+            last(n / 10),
+            last(n),
+        ]),
+        _ => push_long(text, n),
+    }
 }
 
 pub(crate) fn push_wide(text: &mut Vec<u8>, n: u128) -> Result<(), AllocError>
@@ -53,7 +92,8 @@ pub(crate) fn push_hex(text: &mut Vec<u8>, bytes: &[u8]) -> Result<(), AllocErro
     ensures err { OnErr result (StaysInFront text.old.items text.new.items) }
 {
     for byte in bytes {
-        text.extend_from_slice(&[digit(*byte / 16), digit(*byte % 16)])?;
+        text.push(digit(*byte / 16))?;
+        text.push(digit(*byte % 16))?;
     }
     Ok(())
 }
@@ -61,6 +101,7 @@ pub(crate) fn push_hex(text: &mut Vec<u8>, bytes: &[u8]) -> Result<(), AllocErro
 // ---- operations
 
 // The keyword of an operation, which its line begins with.
+#[inline(always)]
 fn push_keyword(text: &mut Vec<u8>, keyword: Keyword) -> Result<(), AllocError>
     ensures ok { OnOk result (text.new.items ≡ text.old.items ++ keyword_text keyword) }
     ensures err { OnErr result (StaysInFront text.old.items text.new.items) }
@@ -69,16 +110,16 @@ fn push_keyword(text: &mut Vec<u8>, keyword: Keyword) -> Result<(), AllocError>
 }
 
 // A blank and the letter of a domain.
+#[inline(always)]
 fn push_letter(text: &mut Vec<u8>, letter: Letter) -> Result<(), AllocError>
     ensures ok { OnOk result (text.new.items ≡ text.old.items ++ blank ∷ letter_word letter) }
     ensures err { OnErr result (StaysInFront text.old.items text.new.items) }
 {
-    text.push(b' ')?;
-    text.push(letter.byte())?;
-    Ok(())
+    text.extend_from_slice(&[b' ', letter.byte()])
 }
 
 // A blank and the name.
+#[inline(always)]
 pub(crate) fn push_name(text: &mut Vec<u8>, texts: &Texts, name: TextId) -> Result<(), AllocError>
     requires { IsKnown texts.now name }
     ensures ok { OnOk result (text.new.items ≡ text.old.items ++ blank ∷ text_at texts.now name) }
@@ -111,6 +152,7 @@ fn push_refusal(text: &mut Vec<u8>, side: Side, number: u64) -> Result<(), Alloc
 }
 
 // The line of an operation, without its end.
+#[inline(always)]
 pub(crate) fn push_op(text: &mut Vec<u8>, texts: &Texts, op: &Op) -> Result<(), AllocError>
     requires { IsKnownOp texts.now op.now }
     ensures ok { OnOk result (text.new.items ≡ text.old.items ++ line_of (action_of texts.now op.now)) }
