@@ -4,7 +4,7 @@ use Rattle.std.proofs.Common.{Option, Some, None, refl, ap, arith}
 use Rattle.std.specs.Prelude.{IfSome, option_map}
 use Rattle.pattern_model.specs.Laws.{ReadsInTurn}
 use Rattle.pattern_model.specs.Patterns.{after_byte, bracket_part, closing, first_part, negation, opening, parts_in}
-use Rattle.pattern_model.specs.Patterns.{parts_of, question, set_after, set_of, star, to_bracket, to_set_end}
+use Rattle.pattern_model.specs.Patterns.{question, set_after, set_of, star, to_bracket, to_set_end}
 use Rattle.pattern_model.specs.Patterns.{Cut, PartRead, SetRead}
 
 -- what holds of both answers holds of the one that is taken
