@@ -2,7 +2,8 @@
 ghost use Rattle.std.specs.Prelude.{◌≡◌, ◌∷◌, ◌≤◌, length, map, option_map, IfOk};
 ghost use Rattle.name_match.specs.Pieces.{set_held, stretch_of};
 ghost use Rattle.name_match.specs.Sets.{cut_of, set_read};
-ghost use Rattle.pattern_model.specs.Patterns.{has_byte, is_listed, is_within, set_after, stretches, to_set_end};
+ghost use Rattle.pattern_model.specs.Patterns.{has_byte, is_listed, is_within};
+ghost use Rattle.pattern_model.specs.Patterns.{set_after, stretches, to_set_end};
 
 use std::alloc::{AllocError, Global};
 

@@ -1,6 +1,7 @@
 -- Patterns of file names, as the filters of `Lib/tracemalloc.py` have them by `fnmatch`.
 use Rattle.std.specs.Prelude.{ℕ, zero, suc, ◌-◌, Bool, true, false, not, ◌&&◌, ◌||◌, ◌==◌, nat_le}
-use Rattle.std.specs.Prelude.{if◌then◌else◌, eqb, List, [], ◌∷◌, length, take, codes, Option, Some, None, option_map}
+use Rattle.std.specs.Prelude.{if◌then◌else◌, eqb, List, [], ◌∷◌, length, take, codes}
+use Rattle.std.specs.Prelude.{Option, Some, None, option_map}
 use Rattle.std.specs.List.{ends_with, list_any}
 use Rattle.mem_base.specs.Name.{Name}
 
@@ -36,9 +37,13 @@ pub data Part : Type 0 where
   any : Part
   of_set : ByteSet → Part
 
+-- the stretch from a byte to another one, without bytes where they are reversed
+abbrev pub from_to : ℕ → ℕ → Stretch
+from_to a c = record { least = a; greatest = c }
+
 -- the stretch of one byte
 abbrev pub one : ℕ → Stretch
-one b = record { least = b; greatest = b }
+one b = from_to b b
 
 -- the byte itself
 abbrev pub itself : ℕ → Part
@@ -82,7 +87,8 @@ after_byte b cut = record cut { front = b ∷ cut.front }
 abbrev pub to_bracket : List ℕ → Option Cut
 to_bracket [] = None
 to_bracket (b ∷ bs) =
-    if b == closing then Some (record { front = []; behind = bs }) else option_map (after_byte b) (to_bracket bs)
+    if b == closing then Some (record { front = []; behind = bs })
+    else option_map (after_byte b) (to_bracket bs)
 
 -- the text of a set, cut at its end: a `]` that stands first does not end the set
 abbrev pub to_set_end : List ℕ → Option Cut
@@ -95,7 +101,8 @@ stretches [] = []
 stretches (a ∷ []) = one a ∷ []
 stretches (a ∷ b ∷ []) = one a ∷ one b ∷ []
 stretches (a ∷ b ∷ c ∷ rest) =
-    if b == dash then record { least = a; greatest = c } ∷ stretches rest else one a ∷ stretches (b ∷ c ∷ rest)
+    if b == dash then from_to a c ∷ stretches rest
+    else one a ∷ stretches (b ∷ c ∷ rest)
 
 -- the set of a text, and what stands behind it
 pub record SetRead : Type 0 where
@@ -104,7 +111,10 @@ pub record SetRead : Type 0 where
 
 -- the set whose members stand in front of the cut
 abbrev pub set_of : Bool → Cut → SetRead
-set_of negated cut = record { set = record { negated = negated; stretches = stretches cut.front }; behind = cut.behind }
+set_of negated cut = record {
+  set = record { negated = negated; stretches = stretches cut.front };
+  behind = cut.behind;
+}
 
 -- the set that stands behind a `[`, if it ends: a `!` in front of its members negates it
 abbrev pub set_after : List ℕ → Option SetRead

@@ -15,8 +15,8 @@
 //! `fnmatch` works on the characters of a name, and these patterns on its bytes.
 #![tactic(auto)]
 
-ghost use Rattle.std.specs.Prelude.{◌≡◌, true, false, [], ◌∷◌, codes};
-ghost use Rattle.pattern_model.specs.Patterns.{matches, one, stretches};
+ghost use Rattle.std.specs.Prelude.{◌≡◌, true, false, ◌∷◌, map, codes};
+ghost use Rattle.pattern_model.specs.Patterns.{from_to, matches, one, stretches};
 ghost use Rattle.pattern_model.specs.Laws.{ReadsInTurn};
 
 /// A pattern is read part by part.
@@ -35,8 +35,8 @@ pub fn patterns_match_these()
     ensures reversed_negated { matches (codes "[!z-a]") (codes "m") ≡ true }
 {}
 
-/// The members of these sets.
+/// What the members of these sets are read as; 97 is `a`, and 99 is `c`.
 pub fn sets_have_these()
-    ensures dash_last { stretches (codes "a-") ≡ one 97 ∷ one 45 ∷ [] }
-    ensures dash_again { stretches (codes "a-c-e") ≡ record { least = 97; greatest = 99 } ∷ one 45 ∷ one 101 ∷ [] }
+    ensures dash_last { stretches (codes "a-") ≡ map one (codes "a-") }
+    ensures dash_again { stretches (codes "a-c-e") ≡ from_to 97 99 ∷ map one (codes "-e") }
 {}
