@@ -1,13 +1,14 @@
 -- The pieces of a pattern, one after another.
 use Rattle.std.proofs.Common.{◌≡◌, ◌≢◌, ℕ, ◌+◌, ◌-◌, ◌<◌, ◌≤◌, true, false, ◌&&◌, List, [], ◌∷◌, ◌++◌, length, map, take, drop}
 use Rattle.std.proofs.Common.{get_or, refl, ap, sym, subst, ◌∙◌, arith, append_assoc, append-nil}
-use Rattle.std.proofs.lemmas.List.{drop-drop, drop-map, drop_more, length-drop, length-map, map_push, take_all, take-append-drop, take-map}
+use Rattle.std.proofs.lemmas.List.{drop-drop, drop-map, drop_more, length-drop, length-map, map-append, map_push, take_all, take-append-drop, take-map}
 use Rattle.pattern_model.specs.Patterns.{any, at_some_end, first_part, match_parts, parts_of, Part, PartRead}
 use Rattle.pattern_model.proofs.CallerLemmas.{first_within, reads_in_turn}
 use Rattle.name_match.specs.Pieces.{part_of, parts_held}
-use Rattle.name_match.specs.Runs.{fits, run_length, takes_byte, FitsNowhereBelow}
+use Rattle.name_match.specs.Runs.{fits, takes_byte, FitsNowhereBelow, IsCut, IsRun, StarsFirst}
 use Rattle.name_match.specs.declared.piece.Piece.{Piece}
-use Rattle.name_match.proofs.RunLemmas.{first_place, front_is_run, last_fits, last_short, no_place, run_alone, run_elsewhere, run_then, star_behind, IsRun}
+use Rattle.name_match.proofs.RunLemmas.{first_place, front_is_run, last_fits, last_short, no_place}
+use Rattle.name_match.proofs.RunLemmas.{run_alone, run_elsewhere, run_length, run_then, star_is_first, star_then}
 
 -- a list behind its first k elements
 pub rest_of : {X : Type 0} (xs : List X) (k : ℕ) → take (length xs - k) (drop k xs) ≡ drop k xs
@@ -57,31 +58,26 @@ read_less piece (b ∷ bs) behind some read =
 
 -- ---- pieces, cut in front of their first star
 
-pub record IsCut (held run star : List Piece) : Type 0 where
-  pub is_run : IsRun (parts_held run)
-  pub both : parts_held held ≡ parts_held run ++ parts_held star
-  pub star_first : 1 ≤ length star → parts_held star ≡ any ∷ parts_held (drop 1 star)
-
-pub is_cut : (held run star : List Piece) (r : ℕ) → r ≡ run_length (parts_held held) → run ≡ take r held → star ≡ drop r held
-    → IsCut held run star
-is_cut held run star r is front back =
-    let n = run_length (parts_held held) in
-    let in_front : parts_held run ≡ take n (parts_held held) =
-    ap parts_held front ∙ sym (take-map part_of r held) ∙ ap (λ k. take k (parts_held held)) is in
-    let from_star : parts_held star ≡ drop n (parts_held held) =
-    ap parts_held back ∙ sym (drop-map part_of r held) ∙ ap (λ k. drop k (parts_held held)) is in
+pub is_cut : (pieces run from_star : List Piece) (r : ℕ) → run_length (parts_held pieces) ≡ r → run ≡ take r pieces
+    → from_star ≡ drop r pieces → IsCut pieces run from_star
+is_cut pieces run from_star r is front back =
+    let n = run_length (parts_held pieces) in
+    let in_front : parts_held run ≡ take n (parts_held pieces) =
+    ap parts_held front ∙ sym (take-map part_of r pieces) ∙ ap (λ k. take k (parts_held pieces)) (sym is) in
+    let behind : parts_held from_star ≡ drop n (parts_held pieces) =
+    ap parts_held back ∙ sym (drop-map part_of r pieces) ∙ ap (λ k. drop k (parts_held pieces)) (sym is) in
     record {
-      is_run = subst IsRun (sym in_front) (front_is_run (parts_held held));
-      both = sym (take-append-drop n (parts_held held)) ∙ (λ i. sym in_front i ++ sym from_star i);
-      star_first = λ some.
-          let more : 1 ≤ length (drop n (parts_held held)) =
-          subst (λ (l : List Part). 1 ≤ length l) from_star (subst (λ k. 1 ≤ k) (sym (length-map star part_of)) some) in
-          from_star ∙ star_behind (parts_held held) more ∙ ap (λ (l : List Part). any ∷ drop 1 l) (sym from_star) ∙ ap (λ (l : List Part). any ∷ l) (drop-map part_of 1 star);
+      both = sym (take-append-drop r pieces) ∙ (λ i. sym front i ++ sym back i);
+      no_star = subst IsRun (sym in_front) (front_is_run (parts_held pieces));
+      at_star = subst StarsFirst (sym behind) (star_is_first (parts_held pieces));
     }
 
 module _ (held run star : List Piece) (cut : IsCut held run star) where
+  both : parts_held held ≡ parts_held run ++ parts_held star
+  both = ap parts_held cut.both ∙ map-append part_of run star
+
   no_more : length star ≡ 0 → parts_held held ≡ parts_held run
-  no_more ends = cut.both ∙ ap (λ (l : List Piece). parts_held run ++ parts_held l) (is_empty star ends) ∙ append-nil (parts_held run)
+  no_more ends = both ∙ ap (λ l. parts_held run ++ parts_held l) (is_empty star ends) ∙ append-nil (parts_held run)
     where
       is_empty : (l : List Piece) → length l ≡ 0 → l ≡ []
       is_empty [] h = refl
@@ -93,34 +89,39 @@ module _ (held run star : List Piece) (cut : IsCut held run star) where
   -- pieces without a star
   pub alone : (name : List ℕ) → length star ≡ 0 → length run ≡ length name → match_parts (parts_held held) name ≡ fits (parts_held run) name
   alone name ends same =
-      ap (λ p. match_parts p name) (no_more ends) ∙ run_alone (parts_held run) name cut.is_run (as_many ∙ same)
+      ap (λ p. match_parts p name) (no_more ends) ∙ run_alone (parts_held run) name cut.no_star (as_many ∙ same)
 
   pub elsewhere : (name : List ℕ) → length star ≡ 0 → length run ≢ length name → match_parts (parts_held held) name ≡ false
   elsewhere name ends other =
-      ap (λ p. match_parts p name) (no_more ends) ∙ run_elsewhere (parts_held run) name cut.is_run (λ e. other (sym as_many ∙ e))
+      ap (λ p. match_parts p name) (no_more ends) ∙ run_elsewhere (parts_held run) name cut.no_star (λ e. other (sym as_many ∙ e))
 
   pub last : (name : List ℕ) → length star ≡ 0 → length run ≤ length name
       → at_some_end (match_parts (parts_held held)) name ≡ fits (parts_held run) (drop (length name - length run) name)
   last name ends few =
       let le : length (parts_held run) ≤ length name = omega (arith, few, as_many) in
       ap (λ p. at_some_end (match_parts p) name) (no_more ends)
-      ∙ last_fits (parts_held run) name cut.is_run le
+      ∙ last_fits (parts_held run) name cut.no_star le
       ∙ ap (λ k. fits (parts_held run) (drop (length name - k) name)) as_many
 
   pub last_none : (name : List ℕ) → length star ≡ 0 → length name < length run → at_some_end (match_parts (parts_held held)) name ≡ false
   last_none name ends many =
       ap (λ p. at_some_end (match_parts p) name) (no_more ends)
-      ∙ last_short (parts_held run) name cut.is_run (omega (arith, many, as_many))
+      ∙ last_short (parts_held run) name cut.no_star (omega (arith, many, as_many))
 
   -- pieces with a star
   abbrev behind : List Part
   behind = parts_held (drop 1 star)
 
+  star_first : 1 ≤ length star → parts_held star ≡ any ∷ behind
+  star_first some =
+      let more : 1 ≤ length (parts_held star) = omega (arith, some, length-map star part_of) in
+      star_then (parts_held star) cut.at_star more ∙ ap (λ l. any ∷ l) (drop-map part_of 1 star)
+
   then_star : 1 ≤ length star → (name : List ℕ)
       → match_parts (parts_held held) name ≡ (fits (parts_held run) name && at_some_end (match_parts behind) (drop (length (parts_held run)) name))
   then_star some name =
-      ap (λ p. match_parts p name) (cut.both ∙ ap (λ l. parts_held run ++ l) (cut.star_first some))
-      ∙ run_then (parts_held run) (any ∷ behind) name cut.is_run
+      ap (λ p. match_parts p name) (both ∙ ap (λ l. parts_held run ++ l) (star_first some))
+      ∙ run_then (parts_held run) (any ∷ behind) name cut.no_star
 
   pub first_then : (name : List ℕ) → 1 ≤ length star
       → match_parts (parts_held held) name ≡ (fits (parts_held run) name && at_some_end (match_parts (parts_held (drop 1 star))) (drop (length run) name))

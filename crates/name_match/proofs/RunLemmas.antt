@@ -5,15 +5,15 @@ use Rattle.std.proofs.Common.{length, take, drop, refl, sym, ap, ◌∙◌, subs
 use Rattle.std.proofs.lemmas.Bool.{cases_Bool, cases_lt}
 use Rattle.std.proofs.lemmas.List.{drop-drop}
 use Rattle.pattern_model.specs.Patterns.{any, at_some_end, has_byte, match_parts, of_set, Part}
-use Rattle.name_match.specs.Runs.{fits, run_length, takes_byte, FitsNowhereBelow}
+use Rattle.name_match.specs.Runs.{fits, takes_byte, FitsNowhereBelow, IsRun, StarsFirst}
 
 -- ---- runs
 
--- parts without a star
-abbrev pub IsRun : List Part → Type 0
-IsRun [] = Unit {0}
-IsRun (any ∷ parts) = ⊥
-IsRun (of_set set ∷ parts) = IsRun parts
+-- how many parts stand in front of the first star
+abbrev pub run_length : List Part → ℕ
+run_length [] = 0
+run_length (any ∷ parts) = 0
+run_length (of_set set ∷ parts) = suc (run_length parts)
 
 -- what stands in front of the first star is a run
 pub front_is_run : (parts : List Part) → IsRun (take (run_length parts) parts)
@@ -21,12 +21,17 @@ front_is_run [] = tt
 front_is_run (any ∷ parts) = tt
 front_is_run (of_set set ∷ parts) = front_is_run parts
 
--- behind the first run stands a star, or nothing
-pub star_behind : (parts : List Part) → 1 ≤ length (drop (run_length parts) parts)
-    → drop (run_length parts) parts ≡ any ∷ drop 1 (drop (run_length parts) parts)
-star_behind [] h = absurd (omega (arith, h))
-star_behind (any ∷ parts) h = refl
-star_behind (of_set set ∷ parts) h = star_behind parts h
+-- what stands behind it begins with the star
+pub star_is_first : (parts : List Part) → StarsFirst (drop (run_length parts) parts)
+star_is_first [] = tt
+star_is_first (any ∷ parts) = tt
+star_is_first (of_set set ∷ parts) = star_is_first parts
+
+-- parts that begin with a star
+pub star_then : (parts : List Part) → StarsFirst parts → 1 ≤ length parts → parts ≡ any ∷ drop 1 parts
+star_then [] is some = absurd (omega (arith, some))
+star_then (any ∷ parts) is some = refl
+star_then (of_set set ∷ parts) is some = absurd is
 
 -- ---- fitting
 

@@ -1,12 +1,26 @@
 -- Runs: the parts between two stars, each of which takes one byte.
-use Rattle.std.specs.Prelude.{◌≡◌, ℕ, suc, ◌<◌, Bool, true, false, ◌&&◌, List, [], ◌∷◌, drop}
+use Rattle.std.specs.Prelude.{◌≡◌, ℕ, ◌<◌, Bool, true, false, ◌&&◌, List, [], ◌∷◌, ◌++◌, drop}
 use Rattle.pattern_model.specs.Patterns.{any, has_byte, of_set, Part}
+use Rattle.name_match.specs.Pieces.{parts_held}
+use Rattle.name_match.specs.declared.piece.Piece.{Piece}
 
--- how many parts stand in front of the first star
-abbrev pub run_length : List Part → ℕ
-run_length [] = 0
-run_length (any ∷ parts) = 0
-run_length (of_set set ∷ parts) = suc (run_length parts)
+-- parts without a star
+abbrev pub IsRun : List Part → Type 0
+IsRun [] = Unit {0}
+IsRun (any ∷ parts) = ⊥
+IsRun (of_set set ∷ parts) = IsRun parts
+
+-- the first of the parts, if there is one, is a star
+abbrev pub StarsFirst : List Part → Type 0
+StarsFirst [] = Unit {0}
+StarsFirst (any ∷ parts) = Unit {0}
+StarsFirst (of_set set ∷ parts) = ⊥
+
+-- the pieces, cut into those in front of the first star and those from it on
+pub record IsCut (pieces run from_star : List Piece) : Type 0 where
+  pub both : pieces ≡ run ++ from_star
+  pub no_star : IsRun (parts_held run)
+  pub at_star : StarsFirst (parts_held from_star)
 
 -- whether the part takes this one byte
 abbrev pub takes_byte : Part → ℕ → Bool

@@ -1,7 +1,7 @@
 //! The match of pieces with a name, run by run.
 ghost use Rattle.std.specs.Prelude.{◌≡◌, ◌+◌, ◌≤◌, true, length, drop, IsTrue, IfSome, IfNone};
 ghost use Rattle.name_match.specs.Pieces.{parts_held};
-ghost use Rattle.name_match.specs.Runs.{fits, run_length, FitsNowhereBelow};
+ghost use Rattle.name_match.specs.Runs.{fits, FitsNowhereBelow, IsCut};
 ghost use Rattle.pattern_model.specs.Patterns.{at_some_end, match_parts};
 
 use crate::piece::Piece;
@@ -10,7 +10,7 @@ use crate::piece::Piece;
 pub fn match_whole(pieces: &[Piece], name: &[u8]) -> bool
     ensures { result ≡ match_parts (parts_held pieces.now) name.now }
 {
-    let (run, from_star) = pieces.split_at(run_end(pieces));
+    let (run, from_star) = cut_at_star(pieces);
     match from_star {
         [] => run.len() == name.len() && fits(run, name),
         [_star, behind @ ..] => fits(run, name) && match_some_end(behind, &name[run.len()..]),
@@ -24,7 +24,7 @@ fn match_some_end(pieces: &[Piece], name: &[u8]) -> bool
     let mut pieces = pieces;
     let mut name = name;
     loop {
-        let (run, from_star) = pieces.split_at(run_end(pieces));
+        let (run, from_star) = cut_at_star(pieces);
         let [_star, behind @ ..] = from_star else {
             return run.len() <= name.len() && fits(run, &name[name.len() - run.len()..]);
         };
@@ -38,17 +38,16 @@ fn match_some_end(pieces: &[Piece], name: &[u8]) -> bool
     }
 }
 
-// How many pieces stand in front of the first star.
-fn run_end(pieces: &[Piece]) -> usize
-    ensures run { result ≡ run_length (parts_held pieces.now) }
-    ensures within { result ≤ length pieces.now }
+// The pieces in front of the first star, and those from it on.
+fn cut_at_star(pieces: &[Piece]) -> (&[Piece], &[Piece])
+    ensures { IsCut pieces.now result.0.now result.1.now }
 {
     for (i, piece) in pieces.iter().enumerate() {
         if let Piece::Any = piece {
-            return i;
+            return pieces.split_at(i);
         }
     }
-    pieces.len()
+    pieces.split_at(pieces.len())
 }
 
 // Whether the run takes the first bytes of the name.
