@@ -12,5 +12,6 @@ returns-in-Any c =
 
 pub returns : goal.returns
 returns c =
-    let is : run_length (parts_held c.args.pieces.now) ≡ length c.args.pieces.now = grind (arith, common_steps) in
+    let is : run_length (parts_held c.args.pieces.now) ≡ length c.args.pieces.now =
+    grind (arith, common_steps) in
     is_cut _ _ _ (length c.args.pieces.now) is c.split_at-2.ensures.front c.split_at-2.ensures.back

@@ -43,5 +43,7 @@ loop-from_star-preserved c =
     let star = c.cut_at_star.result.1.now in
     let name = c.loop-from_star.name.now in
     c.loop-from_star.invariant
-    ∙ found _ run star c.cut_at_star.ensures name c.in-Some.at c.in-len1-up.len_at_least c.in-Some.ensures.first c.in-Some.ensures.here
-    ∙ (λ i. at_some_end (match_parts (parts_held (sym (rest_of star 1) i))) (sym (rest_behind name c.in-Some.at (length run)) i))
+    ∙ found _ run star c.cut_at_star.ensures name c.in-Some.at c.in-len1-up.len_at_least
+    c.in-Some.ensures.first c.in-Some.ensures.here
+    ∙ (λ i. at_some_end (match_parts (parts_held (sym (rest_of star 1) i)))
+    (sym (rest_behind name c.in-Some.at (length run)) i))

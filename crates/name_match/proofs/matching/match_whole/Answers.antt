@@ -31,7 +31,8 @@ returns-then-fits c =
     let name = c.args.name.now in
     c.match_some_end.ensures
     ∙ (λ i. at_some_end (match_parts (parts_held (rest_of star 1 i))) (rest_of name (length run) i))
-    ∙ ap (λ x. x && at_some_end (match_parts (parts_held (drop 1 star))) (drop (length run) name)) (sym c.if-fits.true ∙ c.fits-in-len1-up.ensures.fits)
+    ∙ ap (λ x. x && at_some_end (match_parts (parts_held (drop 1 star))) (drop (length run) name))
+    (sym c.if-fits.true ∙ c.fits-in-len1-up.ensures.fits)
     ∙ sym (first_then _ run star c.cut_at_star.ensures name c.in-len1-up.len_at_least)
 
 pub returns-else-fits : goal.returns-else-fits
@@ -40,5 +41,6 @@ returns-else-fits c =
     let star = c.cut_at_star.result.1.now in
     let name = c.args.name.now in
     c.if-fits.false
-    ∙ ap (λ x. x && at_some_end (match_parts (parts_held (drop 1 star))) (drop (length run) name)) (sym c.if-fits.false ∙ c.fits-in-len1-up.ensures.fits)
+    ∙ ap (λ x. x && at_some_end (match_parts (parts_held (drop 1 star))) (drop (length run) name))
+    (sym c.if-fits.false ∙ c.fits-in-len1-up.ensures.fits)
     ∙ sym (first_then _ run star c.cut_at_star.ensures name c.in-len1-up.len_at_least)
