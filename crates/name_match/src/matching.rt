@@ -17,7 +17,8 @@ pub fn match_whole(pieces: &[Piece], name: &[u8]) -> bool
     }
 }
 
-// Whether the pieces, which stand behind a star, match some end of the name.
+// Whether the pieces, which stand behind a star, match some end of the name. A run in front of a further star
+// is taken at its first place, and the last run at the end of the name.
 fn match_some_end(pieces: &[Piece], name: &[u8]) -> bool
     ensures { result ≡ at_some_end (match_parts (parts_held pieces.now)) name.now }
 {

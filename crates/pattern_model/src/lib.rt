@@ -12,7 +12,8 @@
 //! of the two, which has no members where it is reversed, and any other byte is itself. A `]` that stands
 //! first is a member; where no `]` ends the set, its `[` is itself.
 //!
-//! `fnmatch` works on the characters of a name, and these patterns on its bytes.
+//! `fnmatch` works on the characters of a name, and these patterns on its bytes. There, a `!` behind a
+//! reversed range that stands first in a set, as in `[z-a!b]`, negates the set; here it is a member.
 #![tactic(auto)]
 
 ghost use Rattle.std.specs.Prelude.{◌≡◌, true, false, ◌∷◌, map, codes};
