@@ -13,9 +13,13 @@ use Rattle.layout_model.specs.Plain.{PlainView, StandsFor, new_plain}
 use Rattle.pool_core.specs.Calls.{CanTake, InRun, OnlyAt}
 use Rattle.pool_core.proofs.CallerLemmas.{home_one, new_live}
 use Rattle.arena_set.specs.Started.{Started, plain_of, started_from, started_in, started_of}
+use Rattle.arena_set.specs.declared.link.Link.{Link}
+use Rattle.arena_set.specs.declared.link.Link.TheVariants.{Next, Prev}
+use Rattle.arena_set.specs.Link.{link_offset, plain_with, with_link}
 use Rattle.arena_set.specs.Flat.{AllSome, flat}
 use Rattle.layout_model.specs.Geometry.{first_pool, pool_offset}
 use Rattle.arena_set.specs.Arena.{ArenaView, after_lending, after_mending, arena_loans, arena_view, pool_loans, AccountsFor, IsArena, IsSound, PoolChange}
+use Rattle.arena_set.specs.Set.{pool_line}
 use Rattle.arena_set.specs.ArenaCalls.{ArenaLends, ArenaMends, CanLendPool, CanMendAt, CanMendPiece, IsLentAt, LentAt, MendedAt}
 use Rattle.arena_set.proofs.Flats.{inside, part_same, some_same}
 use Rattle.arena_set.proofs.Geometry.{pool_once, pools_once}
@@ -184,7 +188,7 @@ module _ (r : RegionView) (free : List ℕ) (os : List (Option ℕ)) (k : ℕ) (
     abbrev linked_arena : ArenaView
     linked_arena = arena_view new free os
 
-    pub links_do : IsArena linked_arena × (PoolChange old linked_arena k linked × (arena_loans linked_arena ≡ arena_loans old))
+    links_do : IsArena linked_arena × (PoolChange old linked_arena k linked × (arena_loans linked_arena ≡ arena_loans old))
     links_do =
         let lt = inside (old).pools k s there in
         let out = started_taken old k s sound there in
@@ -198,3 +202,25 @@ module _ (r : RegionView) (free : List ℕ) (os : List (Option ℕ)) (k : ℕ) (
             pool_loans_stay r free os k sound linked lt out new base maker only within stands loans os refl named (λ j other. refl),
           ),
         )
+
+  -- a started pool with one other link
+  pub link_does : (l : Link) (s : Started) → get_or (old).pools k None ≡ Some s → (place : ℕ) (new : RegionView) → new.base ≡ r.base → new.maker ≡ r.maker
+      → OnlyAt (InRun (at + link_offset l) 8) r.cells new.cells → StandsFor new.cells at (plain_with l (plain_of s) place)
+      → IsArena (arena_view new free os) × (PoolChange old (arena_view new free os) k (with_link l s place) × (arena_loans (arena_view new free os) ≡ arena_loans old))
+  link_does Next s there place new base maker only here = links_do s there place s.prev (at + 16) (inl refl) new base maker only here
+  link_does Prev s there place new base maker only here = links_do s there s.next place (at + 24) (inr refl) new base maker only here
+
+-- the word of a link is one of a pool's header
+pub link_inside : (l : Link) → (16 ≤ link_offset l) × (link_offset l ≤ 24)
+link_inside Next = (omega arith, omega arith)
+link_inside Prev = (omega arith, omega arith)
+
+-- a pool has its blocks whatever its links are
+pub link_pool : (l : Link) (s : Started) (place : ℕ) → (with_link l s place).pool ≡ s.pool
+link_pool Next s place = refl
+link_pool Prev s place = refl
+
+-- a pool's line tells nothing of its links
+pub link_line : (l : Link) (n base k : ℕ) (s : Started) (place : ℕ) → pool_line n base k (with_link l s place) ≡ pool_line n base k s
+link_line Next n base k s place = refl
+link_line Prev n base k s place = refl

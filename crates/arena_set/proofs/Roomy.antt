@@ -2,10 +2,9 @@
 use Rattle.std.proofs.Common.{◌≡◌, ℕ, ◌+◌, ◌^◌, ◌<◌, ◌≤◌, List, length, Option, sym, subst, ◌∙◌}
 use Rattle.ranks.specs.Ranks.{rank_in}
 use Rattle.arena_set.specs.Arena.{ArenaView}
-use Rattle.arena_set.specs.Set.{SetView}
-use Rattle.arena_set.specs.Kept.{IsKeptSet}
+use Rattle.arena_set.specs.Kept.{PlacedSet, IsKeptSet}
 
-module _ (v : SetView) (space : ℕ) (ranks : List ℕ) (kept : IsKeptSet v space ranks) (spare roomy : ℕ) (more : List ℕ) where
+module _ (v : PlacedSet) (space : ℕ) (ranks : List ℕ) (kept : IsKeptSet v space ranks) (spare roomy : ℕ) (more : List ℕ) where
   -- the same set, in a larger table and a larger list
   moved : ((x : ℕ) → rank_in more x ≡ rank_in ranks x) → length v.arenas + spare < 2 ^ 32 → length v.arenas + spare ≤ roomy → length v.arenas + spare ≤ length more → IsKeptSet (record { usable = v.usable; arenas = v.arenas; spare = spare }) roomy more
   moved stay few table room = record {

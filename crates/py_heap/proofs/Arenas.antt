@@ -4,7 +4,7 @@ use Rattle.std.proofs.lemmas.List.{length-append, length-map}
 use Rattle.std.proofs.Math.Nat.{mul-div-le, mul-le-mul_right}
 use native.Mathlib.Numerals.{unary_clauses}
 use Rattle.extents.specs.Sums.{tally, Has, Removed}
-use Rattle.extents.specs.Extent.{Extent, covers, region_extent}
+use Rattle.extents.specs.Extent.{covers, region_extent}
 use Rattle.extents.proofs.CallerLemmas.{has_left, has_right, has_either, inserted_first}
 use Rattle.layout_model.specs.Sizes.{capacity}
 use Rattle.layout_model.specs.Pool.{blocks_of, size_of, IsPool}
@@ -65,7 +65,7 @@ pub record IsLine (v : SetView) (x : PoolLine) : Type 0 where
   pub is : line_at id a s ≡ x
 
 -- an arena by its place in the table
-at_number : (v : SetView) (i m : ℕ) (a : ArenaView) → m ≡ 1 + i → get_or v.arenas i None ≡ Some a → IsAt v m a
+pub at_number : (v : SetView) (i m : ℕ) (a : ArenaView) → m ≡ 1 + i → get_or v.arenas i None ≡ Some a → IsAt v m a
 at_number v i m a at there =
     let same : i ≡ m - 1 = omega arith in
     record { some = omega arith; there = subst (λ j. get_or v.arenas j None ≡ Some a) same there }
@@ -103,7 +103,7 @@ started_once v id a b s t x y =
     let e = x.there in let d : get_or a.pools id.pool None ≡ Some t = subst (λ z. get_or z.pools id.pool None ≡ Some t) (sym same) y.there in
     (same, cc)
 
--- ---- regions, and blocks
+-- ---- regions
 
 pub region_there : (v : SetView) (n : ℕ) (a : ArenaView) → IsAt v n a → Has (region_extent a.region) (regions_of v.arenas)
 region_there v n a at =
@@ -121,27 +121,6 @@ pool_ground v id a s at below =
     let p = pools_are_in_arenas a.region.base id.pool low in
     let long = ar.region.len in
     record { aligned = p.0; inside = (p.1, omega arith) }
-
--- the pool that has a block
-pub record IsLoan (v : SetView) (e : Extent) : Type 0 where
-  pub id : PoolId
-  pub a : ArenaView
-  pub s : Started
-  pub started : IsStarted v id a s
-  pub lent : Has e (pool_loans a.region.base a.region.maker id.pool s)
-
-pub loan_there : (v : SetView) (e : Extent) → Has e (loans_of v.arenas) → IsLoan v e
-loan_there v e h =
-    let o = in_flat (λ n a. arena_loans a) 1 v.arenas e h in
-    let p = in_flat (pool_loans o.x.region.base o.x.region.maker) 0 o.x.pools e o.here in
-    let same : p.i ≡ p.m = let d = p.at in omega arith in
-    record {
-      id = record { arena = o.m; pool = p.m };
-      a = o.x;
-      s = p.x;
-      started = record { at = at_number v o.i o.m o.x o.at o.there; there = subst (λ k. get_or o.x.pools k None ≡ Some p.x) same p.there };
-      lent = p.here;
-    }
 
 -- ---- sites
 

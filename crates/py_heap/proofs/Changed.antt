@@ -7,7 +7,7 @@ use Rattle.extents.specs.Sums.{tally, Has, Inserted, Removed}
 use Rattle.extents.specs.Extent.{piece_extent, AreApart}
 use Rattle.heap_model.specs.Tables.{Spot}
 use Rattle.arena_set.specs.declared.pool_id.PoolId.{PoolId}
-use Rattle.arena_set.specs.Set.{SetView, loans_of, pools_of, regions_of, usable_of, dry_of, IsSet}
+use Rattle.arena_set.specs.Set.{SetView, loans_of, pools_of, regions_of, dry_of, IsSet}
 use Rattle.arena_set.specs.Calls.{CanLend, CanMend, GivesPool, Lends, Mends, Starts, TakesPool}
 use Rattle.arena_set.specs.Rule.{GavePool, PoolBack}
 use Rattle.arena_set.specs.Started.{started_of}
@@ -21,7 +21,7 @@ use Rattle.py_heap.specs.Frees.{CanComeBack, ComesBack, SitesAfter, TakesBack, w
 use Rattle.py_heap.specs.Links.{ClassView, class_view, first_id, list_of, no_pools, spot, AreLinked}
 use Rattle.py_heap.specs.Relinks.{AreMarked, CanPutFirst, PutsFirst, Unlinks}
 use Rattle.py_heap.proofs.Lending as lending
-use Rattle.py_heap.proofs.Lending.{count_fits, full_fits, heads_long, lists_at}
+use Rattle.py_heap.proofs.Lending.{count_fits, full_fits, lists_at}
 use Rattle.py_heap.proofs.Fresh as fresh
 use Rattle.py_heap.proofs.Freeing as freeing
 use Rattle.py_heap.proofs.Giving.{given_linked}
@@ -45,7 +45,7 @@ module _ (p : Pools) (k : IsKeptState (state_of p)) (c : ℕ) (small : c < 32) (
   can_lend_first = lending.can_lend (state_of p) k c small id (split).0 (split).1
 
   module _ (set1 : SetView) (piece : PieceView) (full : Bool) (lends : Lends p.set set1 id piece full) (loans : Inserted (piece_extent piece) (loans_of p.set.arenas) (loans_of set1.arenas))
-      (apart : AreApart (loans_of set1.arenas)) (regions : regions_of set1.arenas ≡ regions_of p.set.arenas) (same : (usable_of set1 ≡ usable_of p.set) × (dry_of set1 ≡ dry_of p.set)) (sound : IsSet set1) where
+      (apart : AreApart (loans_of set1.arenas)) (regions : regions_of set1.arenas ≡ regions_of p.set.arenas) (same : (set1.usable ≡ p.set.usable) × (dry_of set1 ≡ dry_of p.set)) (sound : IsSet set1) where
     abbrev q : Pools
     q = record p { set = set1; pooled = p.pooled + 1 }
 
@@ -109,9 +109,9 @@ module _ (p : Pools) (k : IsKeptState (state_of p)) (c : ℕ) (small : c < 32) (
     (set1 : SetView) (id : PoolId) (taken : TakesPool p.set set1 id) (gave : GavePool id.arena p.set set1) (regions1 : regions_of set1.arenas ≡ regions_of p.set.arenas)
     (loans1 : loans_of set1.arenas ≡ loans_of p.set.arenas) (pools1 : pools_of set1.arenas ≡ pools_of p.set.arenas) (sound1 : IsSet set1)
     (set2 : SetView) (starts : Starts set1 set2 id (started_of p.taken (new_plain id.arena c))) (regions2 : regions_of set2.arenas ≡ regions_of set1.arenas)
-    (loans2 : loans_of set2.arenas ≡ loans_of set1.arenas) (same2 : (usable_of set2 ≡ usable_of set1) × (dry_of set2 ≡ dry_of set1)) (sound2 : IsSet set2)
+    (loans2 : loans_of set2.arenas ≡ loans_of set1.arenas) (same2 : (set2.usable ≡ set1.usable) × (dry_of set2 ≡ dry_of set1)) (sound2 : IsSet set2)
     (set3 : SetView) (piece : PieceView) (full : Bool) (lends : Lends set2 set3 id piece full) (loans3 : Inserted (piece_extent piece) (loans_of set2.arenas) (loans_of set3.arenas))
-    (apart3 : AreApart (loans_of set3.arenas)) (regions3 : regions_of set3.arenas ≡ regions_of set2.arenas) (same3 : (usable_of set3 ≡ usable_of set2) × (dry_of set3 ≡ dry_of set2)) (sound3 : IsSet set3) where
+    (apart3 : AreApart (loans_of set3.arenas)) (regions3 : regions_of set3.arenas ≡ regions_of set2.arenas) (same3 : (set3.usable ≡ set2.usable) × (dry_of set3 ≡ dry_of set2)) (sound3 : IsSet set3) where
   abbrev n : Pools
   n = record p { set = set3; taken = p.taken + 1; pooled = p.pooled + 1 }
 
@@ -159,7 +159,7 @@ module _ (p : Pools) (k : IsKeptState (state_of p)) (c : ℕ) (small : c < 32) (
 
 module _ (p : Pools) (k : IsKeptState (state_of p)) (piece : PieceView) (loan : Has (piece_extent piece) (loans_of p.set.arenas)) (id : PoolId) (can : CanMend p.set id piece)
     (set1 : SetView) (full empty : Bool) (mends : Mends p.set set1 id piece full empty) (loans : Removed (piece_extent piece) (loans_of p.set.arenas) (loans_of set1.arenas))
-    (apart : AreApart (loans_of set1.arenas)) (regions : regions_of set1.arenas ≡ regions_of p.set.arenas) (same : (usable_of set1 ≡ usable_of p.set) × (dry_of set1 ≡ dry_of p.set)) (sound : IsSet set1)
+    (apart : AreApart (loans_of set1.arenas)) (regions : regions_of set1.arenas ≡ regions_of p.set.arenas) (same : (set1.usable ≡ p.set.usable) × (dry_of set1 ≡ dry_of p.set)) (sound : IsSet set1)
     (c : ℕ) (c_is : c ≡ mends.s.pool.class) where
   abbrev r : Pools
   r = record p { set = set1; pooled = p.pooled - 1 }

@@ -1,28 +1,31 @@
 -- A heap without blocks in use is ended, and a new one is empty.
-use Rattle.std.proofs.Common.{◌≡◌, ◌≢◌, ℕ, zero, suc, ◌+◌, ◌-◌, ◌≤◌, inl, inr, cond, eqb, List, [], ◌∷◌, length, get_or, replicate, Some, None, refl, sym, ap, subst, ◌∙◌, arith}
+use Rattle.std.proofs.Common.{◌≡◌, ◌≢◌, ℕ, zero, suc, ◌+◌, ◌-◌, ◌≤◌, inl, inr, eqb, List, [], ◌∷◌, length, get_or, replicate, Some, None, refl, sym, ap, subst, ◌∙◌, arith}
 use Rattle.std.proofs.lemmas.Bool.Decides.{eqb_tells}
 use Rattle.std.proofs.lemmas.List.{get_or-map}
 use Rattle.raw_region.specs.Cells.{AllHome}
 use Rattle.raw_region.specs.Region.{RegionView}
-use Rattle.extents.specs.Sums.{Has, Removed}
+use Rattle.extents.specs.Sums.{tally, Has, Removed}
 use Rattle.extents.specs.Extent.{Extent, region_extent}
 use Rattle.extents.proofs.CallerLemmas.{length_inserted, has-map, has_new}
 use Rattle.links.specs.Nodes.{times}
 use Rattle.sources.specs.Source.{SourceView, ArenaShape}
 use Rattle.sources.specs.Holder.{Traded}
 use Rattle.sources.proofs.CallerLemmas.{traded_gave, traded_then}
+use Rattle.layout_model.specs.Layout.{Usable}
+use Rattle.layout_model.specs.Sound.{is_arena, one_if}
 use Rattle.layout_model.specs.Pool.{blocks_of, live_of, size_of}
 use Rattle.heap_model.proofs.CallerLemmas.{arenas_are_free, empty_tables_are_kept}
 use Rattle.layout_model.specs.Geometry.{total_at, pool_offset, PoolLine}
 use Rattle.arena_set.specs.Arena.{ArenaView, pool_loans, block_extent, arena_loans}
-use Rattle.arena_set.specs.Set.{SetView, empty_set, line_of as usable_line, dry_of, dry_entry, usable_of, usable_times, regions_of, loans_of, IsSet}
+use Rattle.arena_set.specs.Set.{nth_arena, SetView, empty_set, line_of as usable_line, dry_of, dry_entry, usable_times, regions_of, loans_of, IsSet}
 use Rattle.arena_set.specs.Calls.{IsAt, AllIdle, HasNone, EndsOne}
 use Rattle.arena_set.specs.Flat.{part}
 use Rattle.arena_set.proofs.CallerLemmas.{inside, flat_empty, regions_flat}
 use Rattle.py_heap.specs.Heap.{empty_heap}
 use Rattle.py_heap.specs.Kept.{ClassView, State, no_pools, lines_of, tables_of, heap_of, IsKeptState}
-use Rattle.py_heap.specs.Links.{addresses_of, class_of, nth_arena, pool_in, IsHeaded, AreLinked}
+use Rattle.py_heap.specs.Links.{addresses_of, class_of, pool_in, IsHeaded, AreLinked}
 use Rattle.py_heap.proofs.Arenas.{line_there, arena_at, flat_has}
+use Rattle.py_heap.proofs.Linked.{numbered_is}
 
 -- ---- where no block is in use
 
@@ -48,13 +51,14 @@ none_started s k none = empty (lines_of s.set.arenas) (λ x h. let b = some_bloc
   empty [] never = refl
   empty (x ∷ xs) never = absurd (never x (inl refl))
 
--- ---- lists of places
+-- ---- the arenas of a list
 
-has_times : (i : ℕ) (xs : List ℕ) → 1 ≤ times i xs → Has i xs
-has_times i [] = λ le. absurd (omega arith)
-has_times i (x ∷ xs) = elim (eqb_tells x i) as (λ _. 1 ≤ cond (eqb x i) 1 0 + times i xs → Has i (x ∷ xs)) [
-  | inl w ↦ λ le. inl w.1
-  | inr w ↦ rw w.0 (λ le. inr (has_times i xs (omega arith)))
+-- an arena that is counted in a list of usable ones is in it
+arena_in : (n : ℕ) (us : List Usable) → 1 ≤ tally (is_arena n) us → (u : Usable) × (Has u us × (u.arena ≡ n))
+arena_in n [] = λ le. absurd (omega arith)
+arena_in n (u ∷ us) = elim (eqb_tells u.arena n) as (λ _. 1 ≤ one_if (eqb u.arena n) + tally (is_arena n) us → (x : Usable) × (Has x (u ∷ us) × (x.arena ≡ n))) [
+  | inl w ↦ λ le. (u, (inl refl, w.1))
+  | inr w ↦ rw w.0 (λ le. let r = arena_in n us (omega arith) in (r.0, (inr r.1.0, r.1.1)))
 ]
 
 dry_by : (a : ArenaView) → length a.free ≡ 0 → dry_entry (Some a) ≡ Some (total_at a.region.base)
@@ -75,10 +79,13 @@ all_idle s k none n a at =
           let here : get_or (dry_of s.set) (suc (n - 1)) None ≡ Some (total_at a.region.base) = get_or-map dry_entry s.set.arenas (n - 1) None None lt ∙ (ap dry_entry at.there ∙ dry_by a w.1) in
           let there = ap (λ m. get_or (dry_of s.set) m None) next ∙ here in let never = free.0 n in absurd (cc)
       | inr w ↦
-          let once = k.sound_set.listed (n - 1) in let one = ap usable_times at.there ∙ usable_by a w.1 in
-          let listed : Has (n - 1) s.set.usable = has_times (n - 1) s.set.usable (omega arith) in
-          let line : Has (usable_line (n - 1 + 1) (get_or s.set.arenas (n - 1) None)) (usable_of s.set) = has-map (λ i. usable_line (i + 1) (get_or s.set.arenas i None)) (n - 1) s.set.usable listed in
-          let all = free.1 (usable_line (n - 1 + 1) (Some a)) (subst (λ o. Has (usable_line (n - 1 + 1) o) (usable_of s.set)) at.there line) in omega arith
+          let there : nth_arena s.set.arenas n ≡ Some a = numbered_is s.set n a at in
+          let once : tally (is_arena n) s.set.usable ≡ 1 = k.sound_set.listed n ∙ (ap usable_times there ∙ usable_by a w.1) in
+          let u = arena_in n s.set.usable (omega arith) in
+          let number : u.0.arena ≡ n = u.1.1 in
+          let line : u.0 ≡ usable_line u.0.arena (nth_arena s.set.arenas u.0.arena) = k.sound_set.lines u.0 u.1.0 in
+          let is : u.0 ≡ usable_line n (Some a) = line ∙ (ap (λ m. usable_line m (nth_arena s.set.arenas m)) number ∙ ap (usable_line n) there) in
+          let all = free.1 (usable_line n (Some a)) (subst (λ (x : Usable). Has x s.set.usable) is u.1.0) in omega arith
     ]
 
 -- ---- regions go
@@ -130,7 +137,7 @@ new_heap s set_is classes marks counts =
     let same : start ≡ s = sym (λ i. record { set = set_is i; classes = classes i; marks = marks i; taken = counts.0 i; given = counts.1 i; back = counts.2 i; most = counts.3 i; pooled = counts.4 i }) in
     let kept : IsKeptState start = record {
       kept = empty_tables_are_kept;
-      sound_set = record { listed = λ i. refl; arenas = tt; apart = λ x. omega arith; named = λ i a e. absurd (cc) };
+      sound_set = record { lines = λ u h. absurd h; listed = λ n. sym (ap usable_times (none_numbered n)); arenas = tt; apart = λ x. omega arith; named = λ i a e. absurd (cc) };
       apart = λ x. omega arith;
       numbered = refl;
       few = omega arith;

@@ -17,14 +17,14 @@ use Rattle.heap_model.proofs.CallerLemmas.{spot_once as line_once, listed_pool, 
 use Rattle.arena_set.specs.declared.pool_id.PoolId.{PoolId}
 use Rattle.arena_set.specs.Started.{Started}
 use Rattle.layout_model.specs.Geometry.{pool_offset, PoolLine}
-use Rattle.arena_set.specs.Arena.{ArenaView, pool_loans, block_extent, piece_offset, after_mending}
-use Rattle.arena_set.specs.Set.{SetView, regions_of, loans_of, usable_of, dry_of, IsSet, region_in}
+use Rattle.arena_set.specs.Arena.{ArenaView, arena_loans, pool_loans, block_extent, piece_offset, after_mending}
+use Rattle.arena_set.specs.Set.{SetView, regions_of, loans_of, dry_of, IsSet, region_in}
 use Rattle.arena_set.specs.Calls.{IsStarted, CanMend, Mends, GivesPool}
 use Rattle.arena_set.proofs.CallerLemmas.{PieceOf, piece_of}
 use Rattle.py_heap.specs.Heap.{AreHome, InPool}
 use Rattle.py_heap.specs.Kept.{ClassView, State, no_pools, spot, spots_of, lines_of, sites_of, tables_of, heap_of, class_at, full_in, IsKeptState}
 use Rattle.py_heap.specs.Frees.{TakesBack}
-use Rattle.py_heap.proofs.Arenas.{region_at, line_at, started_there, started_once, loan_there, sites_same}
+use Rattle.py_heap.proofs.Arenas.{at_number, in_flat, region_at, line_at, started_there, started_once, sites_same}
 use Rattle.py_heap.specs.Links.{pool_at, class_of, list_of, AreLinked}
 use Rattle.py_heap.specs.Relinks.{HasPoolOf, IsPoolOf, OnlyLinks, SameBody}
 use Rattle.py_heap.proofs.Ground.{pool_once, standing_of}
@@ -52,11 +52,28 @@ pub record BlockAt (v : SetView) (e : Extent) : Type 0 where
 
 pub block_at : (v : SetView) (e : Extent) → IsSet v → Has e (loans_of v.arenas) → BlockAt v e
 block_at v e sound h =
-    let l = loan_there v e h in let p = piece_of l.a l.id.pool l.s e l.lent in
-    let g = gave l.s.pool p.off (pool_sound v l.id l.a l.s sound l.started) p.held in
-    let b = block_inside l.s.pool.class p.off g.0.inside in
+    let o = in_flat (λ n a. arena_loans a) 1 v.arenas e h in
+    let q = in_flat (pool_loans o.x.region.base o.x.region.maker) 0 o.x.pools e o.here in
+    let same : q.i ≡ q.m = let d = q.at in omega arith in
+    let id : PoolId = record { arena = o.m; pool = q.m } in
+    let there = subst (λ k. get_or o.x.pools k None ≡ Some q.x) same q.there in
+    let started : IsStarted v id o.x q.x = record { at = at_number v o.i o.m o.x o.at o.there; there = there } in
+    let p = piece_of o.x q.m q.x e q.here in
+    let g = gave q.x.pool p.off (pool_sound v id o.x q.x sound started) p.held in
+    let b = block_inside q.x.pool.class p.off g.0.inside in
     let place = ap (λ (x : Extent). x.place) p.is in let len = ap (λ (x : Extent). x.len) p.is in
-    record { id = l.id; a = l.a; s = l.s; started = l.started; lent = l.lent; off = p.off; held = p.held; is = p.is; inside = (omega arith, omega arith); some = omega arith }
+    record {
+      id = id;
+      a = o.x;
+      s = q.x;
+      started = started;
+      lent = q.here;
+      off = p.off;
+      held = p.held;
+      is = p.is;
+      inside = (omega arith, omega arith);
+      some = omega arith;
+    }
 
 -- the pool of a block has its address
 block_address : (v : SetView) (e : Extent) (b : BlockAt v e) → IsPoolOf v b.id e.place
@@ -145,7 +162,7 @@ module _ (old new : SetView) (id : PoolId) (piece : PieceView) (full empty : Boo
 
 module _ (old : State) (k : IsKeptState old) (piece : PieceView) (loan : Has (piece_extent piece) (loans_of old.set.arenas)) (id : PoolId) (can : CanMend old.set id piece)
     (set1 : SetView) (full empty : Bool) (mends : Mends old.set set1 id piece full empty) (loans : Removed (piece_extent piece) (loans_of old.set.arenas) (loans_of set1.arenas))
-    (apart : AreApart (loans_of set1.arenas)) (regions : regions_of set1.arenas ≡ regions_of old.set.arenas) (same : (usable_of set1 ≡ usable_of old.set) × (dry_of set1 ≡ dry_of old.set)) (sound : IsSet set1) where
+    (apart : AreApart (loans_of set1.arenas)) (regions : regions_of set1.arenas ≡ regions_of old.set.arenas) (same : (set1.usable ≡ old.set.usable) × (dry_of set1 ≡ dry_of old.set)) (sound : IsSet set1) where
   abbrev pool : PoolLine
   pool = line_at id mends.a mends.s
 

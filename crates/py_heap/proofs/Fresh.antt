@@ -22,7 +22,7 @@ use Rattle.heap_model.proofs.CallerLemmas.{spot_tells, new_pool_is_placed, place
 use Rattle.arena_set.specs.declared.pool_id.PoolId.{PoolId}
 use Rattle.arena_set.specs.Started.{Started, started_of}
 use Rattle.arena_set.specs.Arena.{ArenaView, after_lending}
-use Rattle.arena_set.specs.Set.{SetView, pool_line, pools_of, regions_of, loans_of, usable_of, dry_of, IsSet}
+use Rattle.arena_set.specs.Set.{SetView, pool_line, pools_of, regions_of, loans_of, dry_of, IsSet}
 use Rattle.arena_set.specs.Calls.{IsStarted, CanStart, CanLend, TakesPool, Starts, Lends}
 use Rattle.arena_set.specs.Rule.{GavePool}
 use Rattle.py_heap.specs.Heap.{Serves}
@@ -54,7 +54,7 @@ module _ (old : State) (k : IsKeptState old) (c : ℕ) (small : c < 32) (none : 
 
   -- the pool is started
   module _ (set2 : SetView) (starts : Starts set1 set2 id (started_of old.taken (new_plain id.arena c))) (regions2 : regions_of set2.arenas ≡ regions_of set1.arenas)
-      (loans2 : loans_of set2.arenas ≡ loans_of set1.arenas) (same2 : (usable_of set2 ≡ usable_of set1) × (dry_of set2 ≡ dry_of set1)) (sound2 : IsSet set2) where
+      (loans2 : loans_of set2.arenas ≡ loans_of set1.arenas) (same2 : (set2.usable ≡ set1.usable) × (dry_of set2 ≡ dry_of set1)) (sound2 : IsSet set2) where
     abbrev s : Started
     s = started_of old.taken (new_plain id.arena c)
 
@@ -128,7 +128,7 @@ module _ (old : State) (k : IsKeptState old) (c : ℕ) (small : c < 32) (none : 
 
     -- and lends a block
     module _ (set3 : SetView) (piece : PieceView) (full : Bool) (lends : Lends set2 set3 id piece full) (loans3 : Inserted (piece_extent piece) (loans_of set2.arenas) (loans_of set3.arenas))
-        (apart3 : AreApart (loans_of set3.arenas)) (regions3 : regions_of set3.arenas ≡ regions_of set2.arenas) (same3 : (usable_of set3 ≡ usable_of set2) × (dry_of set3 ≡ dry_of set2)) (sound3 : IsSet set3)
+        (apart3 : AreApart (loans_of set3.arenas)) (regions3 : regions_of set3.arenas ≡ regions_of set2.arenas) (same3 : (set3.usable ≡ set2.usable) × (dry_of set3 ≡ dry_of set2)) (sound3 : IsSet set3)
       where
         pub linked3 : AreLinked set3.arenas old.classes
         linked3 = changed_linked set2 set3 id lends.a lends.b lends.s (after_lending lends.s) lends.started lends.change lends.arena refl refl refl old.classes linked2

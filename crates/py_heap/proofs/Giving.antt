@@ -12,11 +12,11 @@ use Rattle.heap_model.proofs.CallerLemmas.{spot_tells}
 use Rattle.arena_set.specs.declared.pool_id.PoolId.{PoolId}
 use Rattle.arena_set.specs.Started.{Started}
 use Rattle.arena_set.specs.Arena.{ArenaView}
-use Rattle.arena_set.specs.Set.{SetView, pool_line, pools_of}
+use Rattle.arena_set.specs.Set.{nth_arena, SetView, pool_line, pools_of}
 use Rattle.arena_set.specs.Calls.{CanGive, GivesPool, KeptAfter, PoolsLeft}
 use Rattle.arena_set.proofs.CallerLemmas.{inside}
 use Rattle.py_heap.specs.Kept.{lines_of}
-use Rattle.py_heap.specs.Links.{ClassView, spot, nth_arena, pool_in, place_in, pool_at, class_of, next_of, prev_of, list_of, AreLinked}
+use Rattle.py_heap.specs.Links.{ClassView, spot, pool_in, place_in, pool_at, class_of, next_of, prev_of, list_of, AreLinked}
 use Rattle.py_heap.proofs.Arenas.{at_once, line_at, line_there, started_there}
 use Rattle.py_heap.proofs.Linked.{id_at, numbered_is, pool_there}
 use Rattle.py_heap.proofs.Relisted.{still_linked}

@@ -14,9 +14,9 @@ use Rattle.layout_model.proofs.CallerLemmas.{granted_keeps, some_pools}
 use Rattle.heap_model.specs.View.{layout_of, places_of, place_in, used_at, used_of, full_of}
 use Rattle.heap_model.specs.Kept.{IsKept, AreOrderly}
 use Rattle.std.specs.List.{range_with_len}
-use Rattle.links.specs.Nodes.{times}
 use Rattle.arena_set.specs.Flat.{AllSome}
-use Rattle.arena_set.specs.Set.{SetView, lines_of as lines_of_arenas, pools_of, regions_of, loans_of, usable_of, dry_entry, usable_times, IsSet, AreNamed, region_in}
+use Rattle.layout_model.specs.Sound.{is_arena}
+use Rattle.arena_set.specs.Set.{SetView, line_of, nth_arena, pools_of, regions_of, loans_of, dry_entry, usable_times, IsSet, AreNamed, region_in}
 use Rattle.arena_set.proofs.CallerLemmas.{inside}
 use Rattle.heap_model.specs.Tables.{Spot}
 use Rattle.layout_model.specs.Geometry.{total_at, Site}
@@ -24,7 +24,7 @@ use Rattle.arena_set.specs.Arena.{ArenaView, IsArena, new_arena as first_arena}
 use Rattle.arena_set.specs.Rule.{CameAlone}
 use Rattle.py_heap.specs.Heap.{BeginsIfThere, Serves}
 use Rattle.py_heap.specs.Kept.{State, no_pools, spots_of, lines_of, sites_of, tables_of, heap_of, class_at, full_in, IsKeptState}
-use Rattle.py_heap.specs.Links.{nth_arena, pool_at, pool_in, place_in as place_in_arena, class_of, next_of, prev_of, list_of, AreLinked}
+use Rattle.py_heap.specs.Links.{pool_at, pool_in, place_in as place_in_arena, class_of, next_of, prev_of, list_of, AreLinked}
 use Rattle.py_heap.proofs.Linked.{pool_there}
 use Rattle.py_heap.proofs.Relisted.{still_linked}
 use Rattle.py_heap.specs.Steps.{OnlyRoom, Comes}
@@ -35,7 +35,8 @@ use Rattle.py_heap.proofs.Lending.{lists_at}
 
 set_kept : (old new : SetView) → new.usable ≡ old.usable → new.arenas ≡ old.arenas → IsSet old → IsSet new
 set_kept old new usable arenas s = record {
-  listed = λ i. ap (times i) usable ∙ s.listed i ∙ ap (λ es. usable_times (get_or es i None)) (sym arenas);
+  lines = λ u h. s.lines u (subst (Has u) usable h) ∙ ap (λ es. line_of u.arena (nth_arena es u.arena)) (sym arenas);
+  listed = λ n. ap (tally (is_arena n)) usable ∙ (s.listed n ∙ ap (λ es. usable_times (nth_arena es n)) (sym arenas));
   arenas = subst (AllSome IsArena) (sym arenas) s.arenas;
   apart = subst (λ es. AreApart (regions_of es)) (sym arenas) s.apart;
   named = subst AreNamed (sym arenas) s.named;
@@ -44,7 +45,7 @@ set_kept old new usable arenas s = record {
 module _ (old new : State) (r : OnlyRoom old new) where
   same_tables : tables_of new ≡ tables_of old
   same_tables i = record {
-    usable = lines_of_arenas (r.arenas i) (r.usable i);
+    usable = r.usable i;
     dry = None ∷ map dry_entry (r.arenas i);
     started = lines_of (r.arenas i);
     lists = map spots_of (r.classes i);
@@ -82,7 +83,7 @@ none_there x zero k = refl
 none_there x (suc n) zero = refl
 none_there x (suc n) (suc k) = none_there x n k
 
-module _ (old : State) (k : IsKeptState old) (r : RegionView) (set1 : SetView) (m : List Site) (none : usable_of old.set ≡ []) (few : old.given + 1 < 2 ^ 32) (n base top total : ℕ) (number : n ≡ length old.set.arenas + 1)
+module _ (old : State) (k : IsKeptState old) (r : RegionView) (set1 : SetView) (m : List Site) (none : old.set.usable ≡ []) (few : old.given + 1 < 2 ^ 32) (n base top total : ℕ) (number : n ≡ length old.set.arenas + 1)
     (base_is : base ≡ r.base) (top_is : top ≡ max old.most (old.given + 1 - old.back)) (total_is : total ≡ total_at base) (rule : CameAlone n (total_at r.base) old.set set1) (arenas : set1.arenas ≡ old.set.arenas ++ Some (first_arena r) ∷ [])
     (regions : Inserted (region_extent r) (regions_of old.set.arenas) (regions_of set1.arenas)) (loans : loans_of set1.arenas ≡ loans_of old.set.arenas) (pools : pools_of set1.arenas ≡ pools_of old.set.arenas) (sound : IsSet set1)
     (marks : Inserted (record { arena = old.given + 1; base = base }) old.marks m) where
@@ -95,7 +96,7 @@ module _ (old : State) (k : IsKeptState old) (r : RegionView) (set1 : SetView) (
   lines_are : lines_of set1.arenas ≡ lines_of old.set.arenas
   lines_are = pools
 
-  none_usable : usable_of old.set ≡ []
+  none_usable : old.set.usable ≡ []
   none_usable = none
 
   layout_is : layout_of (tables_of mid) ≡ granted (layout_of (tables_of old)) (total_at r.base)
@@ -188,7 +189,7 @@ no_pools_listed s c kept small none =
     let at = lists_at s c kept small in let long = length-map s.classes spots_of in
     get_or-map (map (used_at (lines_of s.set.arenas))) (map spots_of s.classes) c [] [] (omega arith) ∙ ap (map (used_at (lines_of s.set.arenas))) (at.1 ∙ none)
 
-pub granted_serves : (old came new : State) (c : ℕ) (total : ℕ) (r : RegionView) (piece : PieceView) → c < 32 → IsKeptState old → (class_at old c).spots ≡ [] → usable_of old.set ≡ [] → total ≡ total_at r.base →
+pub granted_serves : (old came new : State) (c : ℕ) (total : ℕ) (r : RegionView) (piece : PieceView) → c < 32 → IsKeptState old → (class_at old c).spots ≡ [] → old.set.usable ≡ [] → total ≡ total_at r.base →
     Comes total r old came → Serves c NotAsked (Some piece) (heap_of came) (heap_of new) → Serves c (Granted total) (Some piece) (heap_of old) (heap_of new)
 granted_serves old came new c total r piece small k none dry is m s =
     let l = layout_of (tables_of old) in

@@ -18,7 +18,7 @@ use Rattle.heap_model.proofs.CallerLemmas.{first_has_room, lists_have_open_pools
 use Rattle.arena_set.specs.declared.pool_id.PoolId.{PoolId}
 use Rattle.arena_set.specs.Started.{Started}
 use Rattle.arena_set.specs.Arena.{ArenaView, IsSound, after_lending}
-use Rattle.arena_set.specs.Set.{SetView, regions_of, loans_of, usable_of, dry_of, IsSet}
+use Rattle.arena_set.specs.Set.{SetView, regions_of, loans_of, dry_of, IsSet}
 use Rattle.arena_set.specs.Calls.{IsStarted, CanLend, Lends}
 use Rattle.arena_set.proofs.CallerLemmas.{all_at, inside}
 use Rattle.py_heap.specs.Heap.{PoolInRegion, InPool, Serves}
@@ -125,7 +125,7 @@ module _ (old : State) (k : IsKeptState old) (c : ℕ) (small : c < 32) (id : Po
   can_lend = let f = the_first in record { a = f.a; s = f.s; started = f.started; room = f.room }
 
   module _ (new_set : SetView) (piece : PieceView) (full : Bool) (lends : Lends old.set new_set id piece full) (loans : Inserted (piece_extent piece) (loans_of old.set.arenas) (loans_of new_set.arenas))
-      (apart : AreApart (loans_of new_set.arenas)) (regions : regions_of new_set.arenas ≡ regions_of old.set.arenas) (same : (usable_of new_set ≡ usable_of old.set) × (dry_of new_set ≡ dry_of old.set)) (sound : IsSet new_set) where
+      (apart : AreApart (loans_of new_set.arenas)) (regions : regions_of new_set.arenas ≡ regions_of old.set.arenas) (same : (new_set.usable ≡ old.set.usable) × (dry_of new_set ≡ dry_of old.set)) (sound : IsSet new_set) where
     abbrev x : PoolLine
     x = line_at id (the_first).a (the_first).s
 

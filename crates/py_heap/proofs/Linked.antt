@@ -14,11 +14,11 @@ use Rattle.heap_model.specs.Tables.{Spot}
 use Rattle.arena_set.specs.declared.pool_id.PoolId.{PoolId}
 use Rattle.arena_set.specs.Started.{Started}
 use Rattle.arena_set.specs.Arena.{ArenaView}
-use Rattle.arena_set.specs.Set.{SetView, regions_of, IsSet}
+use Rattle.arena_set.specs.Set.{nth_arena, SetView, regions_of, IsSet}
 use Rattle.arena_set.specs.Calls.{IsAt, IsStarted, HasStarted}
 use Rattle.py_heap.specs.declared.classes.ClassPools.{ClassPools}
 use Rattle.py_heap.specs.Heap.{first_in, next_in}
-use Rattle.py_heap.specs.Links.{ClassView, no_pools, spot, sites_of, nth_arena, pool_in, place_in, pool_at, place_of, class_of, next_of, spot_by, spots_from, spots_by, class_view, first_id, list_of, addresses_of, AreLinked}
+use Rattle.py_heap.specs.Links.{ClassView, no_pools, spot, sites_of, pool_in, place_in, pool_at, place_of, class_of, next_of, spot_by, spots_from, spots_by, class_view, first_id, list_of, addresses_of, AreLinked}
 use Rattle.py_heap.specs.Relinks.{BeginsAt, IsLink, IsPoolOf, LeadsTo}
 use Rattle.py_heap.proofs.Arenas.{arena_at, region_there, site_there, sites_cover}
 use Rattle.py_heap.proofs.Ground.{below_total, pool_once}

@@ -9,10 +9,10 @@ use Rattle.heap_model.proofs.CallerLemmas.{spot_tells}
 use Rattle.arena_set.specs.declared.pool_id.PoolId.{PoolId}
 use Rattle.arena_set.specs.Started.{Started}
 use Rattle.arena_set.specs.Arena.{ArenaView, PoolChange}
-use Rattle.arena_set.specs.Set.{SetView, loans_of, pools_of, regions_of, usable_of, dry_of, IsSet}
+use Rattle.arena_set.specs.Set.{nth_arena, SetView, loans_of, pools_of, regions_of, dry_of, IsSet}
 use Rattle.arena_set.specs.Calls.{HasStarted, IsAt, IsStarted, Links, OneArena}
 use Rattle.arena_set.proofs.CallerLemmas.{inside}
-use Rattle.py_heap.specs.Links.{ClassView, spot, sites_of, nth_arena, pool_in, place_in, pool_at, place_of, class_of, next_of, prev_of, AreLinked}
+use Rattle.py_heap.specs.Links.{ClassView, spot, sites_of, pool_in, place_in, pool_at, place_of, class_of, next_of, prev_of, AreLinked}
 use Rattle.py_heap.specs.Relinks.{OnlyLinks, SameBody, word_after}
 use Rattle.py_heap.proofs.Arenas.{sites_same}
 use Rattle.py_heap.proofs.Linked.{class_is, has_started, numbered_is, pool_is}
@@ -142,7 +142,7 @@ module _ (old new : SetView) (id : PoolId) (t : Started) (links : Links old new 
     | inr w ↦ subst (SameBody (get_or old.arenas i None)) (sym (ap (λ xs. get_or xs i None) links.arena.arenas ∙ get_or-set_other old.arenas (id.arena - 1) i (Some links.b) None w.1)) (same_body (get_or old.arenas i None))
   ]
 
-  pub only_links : IsSet new → (usable_of new ≡ usable_of old) × (dry_of new ≡ dry_of old) → pools_of new.arenas ≡ pools_of old.arenas → loans_of new.arenas ≡ loans_of old.arenas → regions_of new.arenas ≡ regions_of old.arenas → OnlyLinks old new
+  pub only_links : IsSet new → (new.usable ≡ old.usable) × (dry_of new ≡ dry_of old) → pools_of new.arenas ≡ pools_of old.arenas → loans_of new.arenas ≡ loans_of old.arenas → regions_of new.arenas ≡ regions_of old.arenas → OnlyLinks old new
   only_links sound same lines loans regions = record {
     usable = same.0;
     dry = same.1;

@@ -22,7 +22,7 @@ use Rattle.arena_set.specs.declared.pool_id.PoolId.{PoolId}
 use Rattle.arena_set.specs.Started.{Started}
 use Rattle.layout_model.specs.Geometry.{pool_offset, Site, in_arena, ArenaHas, PoolLine}
 use Rattle.arena_set.specs.Arena.{ArenaView, started_times}
-use Rattle.arena_set.specs.Set.{SetView, pool_line, pools_of, regions_of, loans_of, usable_of, dry_of, IsSet}
+use Rattle.arena_set.specs.Set.{SetView, pool_line, pools_of, regions_of, loans_of, dry_of, IsSet}
 use Rattle.arena_set.specs.Calls.{CanMend, IsStarted, CanGive, Mends, KeptAfter, PoolsLeft, RegionsLeft}
 use Rattle.arena_set.specs.Rule.{PoolBack}
 use Rattle.py_heap.specs.Heap.{InPool, PoolInRegion, RegionsBack}
@@ -64,7 +64,7 @@ less_regions (Some r) a b c same left home = (subst (λ l. Removed (region_exten
 
 module _ (old : State) (k : IsKeptState old) (piece : PieceView) (id : PoolId) (can : CanMend old.set id piece)
     (set1 : SetView) (full empty : Bool) (mends : Mends old.set set1 id piece full empty) (loans : Removed (piece_extent piece) (loans_of old.set.arenas) (loans_of set1.arenas))
-    (apart : AreApart (loans_of set1.arenas)) (regions : regions_of set1.arenas ≡ regions_of old.set.arenas) (same : (usable_of set1 ≡ usable_of old.set) × (dry_of set1 ≡ dry_of old.set)) (sound : IsSet set1)
+    (apart : AreApart (loans_of set1.arenas)) (regions : regions_of set1.arenas ≡ regions_of old.set.arenas) (same : (set1.usable ≡ old.set.usable) × (dry_of set1 ≡ dry_of old.set)) (sound : IsSet set1)
     (was_last : empty ≡ true) where
   abbrev pool : PoolLine
   pool = line_at id mends.a mends.s
@@ -112,7 +112,7 @@ module _ (old : State) (k : IsKeptState old) (piece : PieceView) (id : PoolId) (
     regions2 : regions_of set2.arenas ≡ regions_of old.set.arenas
     regions2 = only.regions ∙ regions
 
-    same2 : (usable_of set2 ≡ usable_of old.set) × (dry_of set2 ≡ dry_of old.set)
+    same2 : (set2.usable ≡ old.set.usable) × (dry_of set2 ≡ dry_of old.set)
     same2 = (only.usable ∙ same.0, only.dry ∙ same.1)
 
     lines2 : Replaced pool (with_one_less pool) (lines_of old.set.arenas) (lines_of set2.arenas)

@@ -21,7 +21,7 @@ use Rattle.heap_model.proofs.CallerLemmas.{used_here, number_self, numbered_at, 
 use Rattle.arena_set.specs.declared.pool_id.PoolId.{PoolId}
 use Rattle.arena_set.specs.Started.{Started}
 use Rattle.arena_set.specs.Arena.{ArenaView}
-use Rattle.arena_set.specs.Set.{SetView, usable_line, usable_of}
+use Rattle.arena_set.specs.Set.{SetView, usable_line}
 use Rattle.arena_set.specs.Calls.{IsStarted, HasStarted}
 use Rattle.py_heap.specs.Kept.{State, spot, spots_of, lines_of, heap_of, class_at, full_in, IsKeptState}
 use Rattle.layout_model.specs.View.{arena_line, used_pool, is_full, class_line, has_a_pool}
@@ -177,7 +177,7 @@ one_class l c line lines is sofar =
 
 -- ---- arenas
 
-pub arena_lines : (v : SetView) (lines : List ArenaLine) → map usable_line lines ≡ usable_of v → lines ≡ map arena_line (usable_of v)
+pub arena_lines : (v : SetView) (lines : List ArenaLine) → map usable_line lines ≡ v.usable → lines ≡ map arena_line v.usable
 arena_lines v lines is = back lines ∙ ap (map arena_line) is where
   back : (ls : List ArenaLine) → ls ≡ map arena_line (map usable_line ls)
   back [] = refl

@@ -9,6 +9,7 @@ use Rattle.arena_set.specs.declared.pool_id.PoolId.{PoolId}
 use Rattle.arena_set.specs.Flat.{flat}
 use Rattle.arena_set.specs.Started.{Started}
 use Rattle.arena_set.specs.Arena.{ArenaView}
+use Rattle.arena_set.specs.Set.{nth_arena}
 use Rattle.py_heap.specs.Heap.{next_in, prev_in}
 use Rattle.py_heap.specs.declared.classes.ClassPools.{ClassPools}
 
@@ -33,10 +34,6 @@ abbrev pub sites_of : List (Option ArenaView) → List Site
 sites_of arenas = flat (λ n a. record { arena = n; base = a.region.base } ∷ []) 1 arenas
 
 -- ---- what a spot has
-
--- arena n
-abbrev pub nth_arena : List (Option ArenaView) → ℕ → Option ArenaView
-nth_arena arenas n = get_or (None ∷ arenas) n None
 
 -- pool k of an arena, where it was started
 abbrev pub pool_in : Option ArenaView → ℕ → Option Started

@@ -7,7 +7,7 @@ use Rattle.heap_model.specs.Tables.{Spot, same_spot}
 use Rattle.arena_set.specs.declared.pool_id.PoolId.{PoolId}
 use Rattle.arena_set.specs.Started.{Started}
 use Rattle.arena_set.specs.Arena.{ArenaView}
-use Rattle.arena_set.specs.Set.{SetView, loans_of, pools_of, regions_of, usable_of, dry_of, IsSet}
+use Rattle.arena_set.specs.Set.{SetView, loans_of, pools_of, regions_of, dry_of, IsSet}
 use Rattle.arena_set.specs.Calls.{HasStarted, IsStarted}
 use Rattle.py_heap.specs.Kept.{State, class_at, SameSums}
 use Rattle.py_heap.specs.Links.{ClassView, spot, sites_of, pool_at, place_of, class_of, next_of, prev_of, list_of, AreLinked}
@@ -60,7 +60,7 @@ SameBody (Some a) o = (b : ArenaView) × ((o ≡ Some b) × (b.region.base ≡ a
 
 -- nothing has changed but links of pools
 pub record OnlyLinks (old new : SetView) : Type 0 where
-  pub usable : usable_of new ≡ usable_of old
+  pub usable : new.usable ≡ old.usable
   pub dry : dry_of new ≡ dry_of old
   pub lines : pools_of new.arenas ≡ pools_of old.arenas
   pub loans : loans_of new.arenas ≡ loans_of old.arenas

@@ -1,14 +1,16 @@
 //! What a heap keeps, and the steps of its calls.
 //!
 //! Each step that can fail comes before the arena source is asked, and each change after it.
-ghost use Rattle.std.specs.Prelude.{◌≡◌, ℕ, ◌+◌, ◌^◌, ◌<◌, ◌≤◌, [], length, Some, None, replicate, ◌↔◌, IsTrue, IfOk, IfErr, OnOk, OnErr, IfSome, IfNone, IsNone, ◌≢◌};
+ghost use Rattle.std.specs.Prelude.{◌≡◌, ℕ, ◌+◌, ◌^◌, ◌<◌, ◌≤◌, []};
+ghost use Rattle.std.specs.Prelude.{length, Some, None, replicate, ◌↔◌, IsTrue, IfOk};
+ghost use Rattle.std.specs.Prelude.{IfErr, OnOk, OnErr, IfSome, IfNone, IsNone, ◌≢◌};
 ghost use Rattle.mem_base.specs.declared.history.Grant.TheVariants.{NotAsked};
 ghost use Rattle.extents.specs.Sums.{tally, AllIn};
 ghost use Rattle.extents.specs.Extent.{covers};
 ghost use Rattle.layout_model.specs.Pool.{new_pool};
 ghost use Rattle.sources.specs.Holder.{AskedNothing, Traded};
 ghost use Rattle.layout_model.specs.Geometry.{total_at};
-ghost use Rattle.arena_set.specs.Set.{loans_of, regions_of, usable_of, IsSet};
+ghost use Rattle.arena_set.specs.Set.{loans_of, regions_of, IsSet};
 ghost use Rattle.arena_set.specs.Calls.{AllIdle};
 ghost use Rattle.py_heap.specs.Heap.{empty_heap, Serves};
 ghost use Rattle.py_heap.specs.Kept.{class_at, heap_of, no_pools, IsKeptState};
@@ -130,7 +132,7 @@ impl Pools {
         requires kept { IsKeptState (state_of self.old) }
         requires none { (class_at (state_of self.old) class).spots ≡ [] }
         requires count { self.old.taken < 2 ^ 63 }
-        ensures dry { IsNone result ↔ (usable_of self.old.set ≡ []) }
+        ensures dry { IsNone result ↔ (self.old.set.usable ≡ []) }
         ensures left { IfNone result (self.new ≡ self.old) }
         ensures serves { IfSome result (λ piece. IsKeptState (state_of self.new)
             × Serves class NotAsked (Some piece) (heap_of (state_of self.old)) (heap_of (state_of self.new))
@@ -151,7 +153,7 @@ impl Pools {
         requires kept { IsKeptState (state_of self.old) }
         ensures same { OnlyRoom (state_of self.old) (state_of self.new) }
         ensures room { OnOk result (HasRoomForArena (state_of self.new)) }
-        ensures usable { usable_of self.new.set ≡ usable_of self.old.set }
+        ensures usable { self.new.set.usable ≡ self.old.set.usable }
     {
         self.set.reserve_one()
     }
@@ -164,9 +166,10 @@ impl Pools {
         requires come { CanCome region (state_of self.old) }
         ensures kept { IsKeptState (state_of self.new) }
         ensures added { IfOk result (λ total. Comes total region (state_of self.old) (state_of self.new)
-            × (total ≡ total_at region.base) × (usable_of self.new.set ≢ [])) }
+            × (total ≡ total_at region.base) × (self.new.set.usable ≢ [])) }
         ensures given { OnOk result (self.new.given ≡ self.old.given + 1) }
-        ensures left { IfErr result (λ back. (back ≡ region) × (state_of self.new ≡ state_of self.old)) }
+        ensures left { IfErr result (λ back.
+            (back ≡ region) × (state_of self.new ≡ state_of self.old)) }
     {
         let base = region.base();
         // All addresses of a region are below 2^48.
@@ -190,7 +193,7 @@ impl Pools {
         requires class { class < 32 }
         requires kept { IsKeptState (state_of self.old) }
         requires none { (class_at (state_of self.old) class).spots ≡ [] }
-        requires dry { usable_of self.old.set ≡ [] }
+        requires dry { self.old.set.usable ≡ [] }
         requires arena { HasRoomForArena (state_of self.old) }
         requires few { self.old.given + 1 < 2 ^ 32 }
         requires count { self.old.taken < 2 ^ 63 }
@@ -198,9 +201,11 @@ impl Pools {
         requires held { AllIn (regions_of self.old.set.arenas) (A.seen arenas.old).out }
         ensures kept { IsKeptState (state_of self.new) }
         ensures served { IfOk result (λ got. IsServed class got.grant got.piece
-            (heap_of (state_of self.old)) (heap_of (state_of self.new)) (A.seen arenas.old) (A.seen arenas.new)) }
+            (heap_of (state_of self.old)) (heap_of (state_of self.new))
+            (A.seen arenas.old) (A.seen arenas.new)) }
         ensures failed { OnErr result (IsFailed
-            (heap_of (state_of self.old)) (heap_of (state_of self.new)) (A.seen arenas.old) (A.seen arenas.new)) }
+            (heap_of (state_of self.old)) (heap_of (state_of self.new))
+            (A.seen arenas.old) (A.seen arenas.new)) }
     {
         match arenas.ask() {
             Ok(region) => {
@@ -236,16 +241,18 @@ impl Pools {
         requires class { class < 32 }
         requires kept { IsKeptState (state_of self.old) }
         requires none { (class_at (state_of self.old) class).spots ≡ [] }
-        requires dry { usable_of self.old.set ≡ [] }
+        requires dry { self.old.set.usable ≡ [] }
         requires few { self.old.given + 1 < 2 ^ 32 }
         requires count { self.old.taken < 2 ^ 63 }
         requires asked { (A.seen arenas.old).asked < 2 ^ 63 }
         requires held { AllIn (regions_of self.old.set.arenas) (A.seen arenas.old).out }
         ensures kept { IsKeptState (state_of self.new) }
         ensures served { IfOk result (λ got. IsServed class got.grant got.piece
-            (heap_of (state_of self.old)) (heap_of (state_of self.new)) (A.seen arenas.old) (A.seen arenas.new)) }
+            (heap_of (state_of self.old)) (heap_of (state_of self.new))
+            (A.seen arenas.old) (A.seen arenas.new)) }
         ensures failed { OnErr result (IsFailed
-            (heap_of (state_of self.old)) (heap_of (state_of self.new)) (A.seen arenas.old) (A.seen arenas.new)) }
+            (heap_of (state_of self.old)) (heap_of (state_of self.new))
+            (A.seen arenas.old) (A.seen arenas.new)) }
     {
         self.reserve_arena()?;
         self.ask_arena(class, arenas)
@@ -266,9 +273,11 @@ impl Pools {
         requires held { AllIn (regions_of self.old.set.arenas) (A.seen arenas.old).out }
         ensures kept { IsKeptState (state_of self.new) }
         ensures served { IfOk result (λ got. IsServed class got.grant got.piece
-            (heap_of (state_of self.old)) (heap_of (state_of self.new)) (A.seen arenas.old) (A.seen arenas.new)) }
+            (heap_of (state_of self.old)) (heap_of (state_of self.new))
+            (A.seen arenas.old) (A.seen arenas.new)) }
         ensures failed { OnErr result (IsFailed
-            (heap_of (state_of self.old)) (heap_of (state_of self.new)) (A.seen arenas.old) (A.seen arenas.new)) }
+            (heap_of (state_of self.old)) (heap_of (state_of self.new))
+            (A.seen arenas.old) (A.seen arenas.new)) }
     {
         match self.lend_new(class) {
             Some(piece) => Ok(HeapGot {
@@ -293,9 +302,11 @@ impl Pools {
         requires held { AllIn (regions_of self.old.set.arenas) (A.seen arenas.old).out }
         ensures kept { IsKeptState (state_of self.new) }
         ensures served { IfOk result (λ got. IsServed class got.grant got.piece
-            (heap_of (state_of self.old)) (heap_of (state_of self.new)) (A.seen arenas.old) (A.seen arenas.new)) }
+            (heap_of (state_of self.old)) (heap_of (state_of self.new))
+            (A.seen arenas.old) (A.seen arenas.new)) }
         ensures failed { OnErr result (IsFailed
-            (heap_of (state_of self.old)) (heap_of (state_of self.new)) (A.seen arenas.old) (A.seen arenas.new)) }
+            (heap_of (state_of self.old)) (heap_of (state_of self.new))
+            (A.seen arenas.old) (A.seen arenas.new)) }
     {
         match self.lend_first(class) {
             Some(piece) => Ok(HeapGot {

@@ -2,24 +2,25 @@ use Rattle.std.proofs.Common.{◌≡◌, ◌-◌, ◌<◌, get_or, Some, None, r
 use Rattle.layout_model.specs.Plain.{new_plain}
 use Rattle.arena_set.specs.Started.{Started, started_of}
 use Rattle.arena_set.specs.Arena.{ArenaView}
-use Rattle.arena_set.specs.Kept.{spare_of}
-use Rattle.arena_set.specs.Set.{SetView, usable_of, dry_of, loans_of, regions_of}
+use Rattle.arena_set.specs.Kept.{PlacedSet, view_of, spare_of}
+use Rattle.arena_set.specs.Set.{SetView, dry_of, loans_of, regions_of}
 use Rattle.arena_set.specs.Calls.{IsAt, Starts}
 use Rattle.arena_set.proofs.Flats.{read}
 use Rattle.arena_set.proofs.Sets.{loans_same, still_ranked}
 use Rattle.arena_set.proofs.Changes.{Keeps, with_arena, number_is, change_keeps, change_starts}
+use Rattle.arena_set.proofs.Views.{seen_is_set}
 use Rattle.arena_set.proofs.set.ArenaSet.start.Goals as goal
 
 module _ (c : goal.After-self-1) where
-  abbrev before : SetView
+  abbrev before : PlacedSet
   before = record { usable = c.self.inside.usable.nodes; arenas = c.self.inside.arenas.items; spare = spare_of c.self.inside.spare }
 
   same : c.in-Some.arena ≡ c.requires.can.a
   same = read before.arenas (c.args.pool.arena - 1) c.index_mut.result.now c.requires.can.a c.in-Some.arena (subst (λ v. IsAt v c.args.pool.arena c.requires.can.a) (sym c.self.view_is) c.requires.can.pool.at).there c.index_mut.ensures.value c.in-Some.is
 
-  at : IsAt before c.args.pool.arena c.in-Some.arena
+  at : IsAt (view_of before) c.args.pool.arena c.in-Some.arena
   at =
-      let was : IsAt before c.args.pool.arena c.requires.can.a = subst (λ v. IsAt v c.args.pool.arena c.requires.can.a) (sym c.self.view_is) c.requires.can.pool.at in
+      let was : IsAt (view_of before) c.args.pool.arena c.requires.can.a = subst (λ v. IsAt v c.args.pool.arena c.requires.can.a) (sym c.self.view_is) c.requires.can.pool.at in
       record { some = was.some; there = was.there ∙ ap Some (sym same) }
 
   abbrev begun : Started
@@ -47,12 +48,12 @@ returns-clause-loans c =
     loans_same (before c).arenas (c.args.pool.arena - 1) c.args.pool.arena c.in-Some.arena c.start.new.self (number_is (before c) c.args.pool.arena c.in-Some.arena (at c)) (at c).there c.start.ensures.loans ∙ ap (λ (v : SetView). loans_of v.arenas) c.self.view_is
 
 pub returns-clause-same : goal.returns-clause-same
-returns-clause-same c = ((kept c).same.0 ∙ ap usable_of c.self.view_is, (kept c).same.1 ∙ ap dry_of c.self.view_is)
+returns-clause-same c = ((kept c).same.0 ∙ ap (λ (v : SetView). v.usable) c.self.view_is, (kept c).same.1 ∙ ap dry_of c.self.view_is)
 
 pub returns-clause-set : goal.returns-clause-set
-returns-clause-set c = (kept c).set
+returns-clause-set c = seen_is_set _ ((kept c).set)
 
 pub returns-clause-starts : goal.returns-clause-starts
 returns-clause-starts c =
-    subst (λ v. Starts v (with_arena (before c) (c.args.pool.arena - 1) c.start.new.self) c.args.pool (begun c)) c.self.view_is
+    subst (λ v. Starts v (view_of (with_arena (before c) (c.args.pool.arena - 1) c.start.new.self)) c.args.pool (begun c)) c.self.view_is
     (change_starts (before c) c.args.pool c.in-Some.arena c.start.new.self (begun c) c.self.invariant.set (at c) c.start.ensures.arena c.start.ensures.after (lt c) (fresh c))
