@@ -1,11 +1,11 @@
 -- The parts of a body that nobody damaged.
-use Rattle.std.proofs.Common.{◌≡◌, ℕ, ◌+◌, ◌-◌, ◌≤◌, min, ℤ, pos, true, List, ◌∷◌, ◌++◌, length, take, drop, replicate, refl, sym, ap, ◌∙◌, arith, append_assoc, length-append, None}
-use Rattle.std.proofs.lemmas.List.{drop_at, drop-append-le, drop-drop, take_at, length-take, drop-replicate}
+use Rattle.std.proofs.Common.{◌≡◌, ℕ, ◌+◌, ◌-◌, ◌≤◌, ℤ, true, List, ◌∷◌, ◌++◌, length, take, drop, replicate, refl, ap, ◌∙◌, arith, append_assoc, length-append, None}
+use Rattle.std.proofs.lemmas.List.{drop_at, take_at}
 use Rattle.std.proofs.lemmas.Grind.{common_steps}
 use Rattle.mem_base.specs.Letter.{letter_byte}
 use Rattle.mem_base.specs.declared.trace.Letter.{Letter}
 use Rattle.mem_base.specs.declared.trace.Letter.TheVariants.{Raw, Mem, Obj}
-use Rattle.block_model.specs.Block.{body_of, Body, carried, data_of, fresh, resized, size_of, head_of, index_of, reaches, peeked, poked, tail_of, pad, finding, finding_in}
+use Rattle.block_model.specs.Block.{body_of, Body, head_of, index_of, reaches, peeked, poked, tail_of, pad, finding, finding_in}
 use Rattle.std.proofs.lemmas.Bool.{leb-true}
 
 pub head_of-body_of : (v : Letter) (bytes : List ℕ) → head_of (body_of v bytes) ≡ letter_byte v ∷ replicate 7 pad

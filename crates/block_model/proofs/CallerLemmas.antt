@@ -1,5 +1,5 @@
 -- What proofs of other crates may cite: what another size leaves of a body.
-use Rattle.std.proofs.Common.{◌≡◌, ℕ, ◌+◌, ◌-◌, ◌≤◌, min, ℤ, pos, List, ◌++◌, length, take, drop, replicate, sym, ap, ◌∙◌, arith, append_assoc, length-append}
+use Rattle.std.proofs.Common.{◌≡◌, ℕ, ◌+◌, ◌-◌, ◌≤◌, min, pos, List, ◌++◌, length, take, drop, replicate, sym, ap, ◌∙◌, arith, append_assoc, length-append}
 use Rattle.std.proofs.lemmas.List.{drop-append-le, drop-drop, length-take, drop-replicate}
 use Rattle.std.proofs.lemmas.Grind.{common_steps}
 use Rattle.mem_base.specs.declared.trace.Letter.{Letter}

@@ -22,7 +22,8 @@
 #![tactic(auto)]
 
 ghost use Rattle.std.specs.Prelude.{◌≡◌, ◌≤◌, ℕ, ℤ, true, List, None, length};
-ghost use Rattle.block_model.specs.Block.{Body, body_of, carried, finding_in, fresh, peeked, poked, reaches, resized, size_of};
+ghost use Rattle.block_model.specs.Block.{Body, body_of, carried, finding_in, fresh};
+ghost use Rattle.block_model.specs.Block.{peeked, poked, reaches, resized, size_of};
 ghost use Rattle.mem_base.specs.declared.trace.Letter.{Letter};
 
 /// A body has as many bytes of data as it was made of.
@@ -37,13 +38,15 @@ pub fn whole_blocks_pass()
 
 /// What a poke wrote, a peek of the same bytes shows.
 pub fn peeks_show_pokes()
-    ensures { (body : List ℕ) (offset : ℤ) (bytes : List ℕ) → reaches body offset (length bytes) ≡ true
+    ensures { (body : List ℕ) (offset : ℤ) (bytes : List ℕ)
+        → reaches body offset (length bytes) ≡ true
         → peeked (poked body offset bytes) offset (length bytes) ≡ bytes }
 {}
 
 /// A block that grows or shrinks has the size that it was given.
 pub fn resizing_gives_the_size()
-    ensures { (v : Letter) (n b : ℕ) (body : Body) → 16 ≤ length body → size_of (resized v n b body) ≡ n }
+    ensures { (v : Letter) (n b : ℕ) (body : Body)
+        → 16 ≤ length body → size_of (resized v n b body) ≡ n }
 {}
 
 /// A new block of another size, with the data of the old one over its own, is the old one resized.

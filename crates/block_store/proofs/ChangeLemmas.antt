@@ -1,54 +1,42 @@
 -- A block that gets another size, as a turn of its slot.
-use Rattle.std.proofs.Common.{◌≡◌, ◌≢◌, ℕ, ◌+◌, ◌<◌, ◌≤◌, Bool, true, false, cond, List, [], ◌∷◌, ◌++◌, length, get_or, set, Option, Some, None, refl, sym, ap, subst, ◌∙◌, arith, inl, inr, length-append, true≢false}
+use Rattle.std.proofs.Common.{◌≡◌, ◌≢◌, ℕ, ◌+◌, ◌<◌, Bool, true, false, cond, List, [], ◌∷◌, ◌++◌, length, get_or, set, Option, Some, None, refl, sym, ap, subst, ◌∙◌, arith, inl, inr, length-append, true≢false}
 use Rattle.std.specs.Prelude.{◌%◌, ◌&&◌}
 use Rattle.std.specs.Option.{option_map}
-use Rattle.std.proofs.lemmas.List.{get_or-set_same, get_or-set_other, length-set, map-set, set-get_or}
+use Rattle.std.proofs.lemmas.List.{get_or-set_same, get_or-set_other, length-set, map-set}
 use Rattle.std.proofs.lemmas.Grind.{common_steps}
-use Rattle.mem_base.specs.Name.{Name}
 use Rattle.mem_base.specs.declared.history.Ask.{Ask}
 use Rattle.mem_base.specs.declared.history.Ask.TheVariants as ask
 use Rattle.mem_base.specs.declared.history.Grant.{Grant}
 use Rattle.mem_base.specs.declared.reply.Fault.{Fault}
 use Rattle.mem_base.specs.declared.reply.Reply.{Reply}
 use Rattle.mem_base.specs.declared.trace.Letter.{Letter}
-use Rattle.block_model.specs.Block.{body_of, finding_in, fresh, image_of, new_byte, resized}
+use Rattle.block_model.specs.Block.{body_of, finding_in, image_of, new_byte, resized}
 use Rattle.extents.specs.Extent.{Extent}
 use Rattle.extents.specs.Sums.{Inserted}
-use Rattle.sources.specs.Source.{ArenaShape, SourceView}
 use Rattle.debug_guard.specs.Guard.{Guard, guard_extent, piece_of}
 use Rattle.layout_model.specs.Asks.{FitsRequest, Request, raw_was_asked}
 use Rattle.layout_model.specs.Asks.Request.{NoRequest}
 use Rattle.layout_model.specs.Layout.{Layout}
 use Rattle.layout_model.specs.Place.{place}
-use Rattle.layout_model.specs.Sizes.{class_of, need}
+use Rattle.layout_model.specs.Sizes.{need}
 use Rattle.request_model.specs.Decision.{Decision, too_great, faults, asks, decision, fits_in_place, move_request}
-use Rattle.py_heap.specs.Heap.{HeapView}
-use Rattle.event_model.specs.Blocks.{Home, in_raw, Block, is_pooled, len_at}
-use Rattle.event_model.specs.Memory.{Room, SizedCall, Turn, block_made, change_block, change_turn, changed_body, came_to, layout_without, move_block, raw_home, realloc_call, request_to_move, request_to_change, room_for, sized_request, stays_in_place, turn_to}
+use Rattle.event_model.specs.Blocks.{Home, Block, is_pooled}
+use Rattle.event_model.specs.Memory.{Room, SizedCall, Turn, block_made, change_turn, changed_body, layout_without, move_block, raw_home, realloc_call, request_to_move, request_to_change, room_for, sized_request, stays_in_place, turn_to}
 use Rattle.event_model.specs.Replies.{PlainReply, null, ok, fault_in}
 use Rattle.domain_api.specs.Domains.{IsMoved, IsReallocated, IsRefused, IsResized, MayStay, MustMove, not_asked}
 use Rattle.domain_api.specs.Held.{AreHeld, AreSound, DomainsView}
 use Rattle.domain_api.specs.declared.answers.Asked.{Asked}
 use Rattle.domain_api.specs.declared.answers.Moved.{Moved}
 use Rattle.domain_api.specs.declared.answers.Moved.TheVariants as moves
-use Rattle.block_store.specs.Homes.{Places, home_at}
+use Rattle.block_store.specs.Homes.{home_at}
 use Rattle.block_store.specs.Replies.{answer_of, block_left}
 use Rattle.block_store.specs.Slots.{IsStore, IsStored, block_in, block_of, blocks_of, loans_of}
 use Rattle.block_store.specs.Store.{IsTurn, block_at, sized_by, view_of}
 use Rattle.block_store.proofs.HomeLemmas.{SameHomes, its_pool, loans_apart}
 use Rattle.block_store.proofs.LoanLemmas.{gone_homes, gone_is, gone_stored, kept_store, left_others, lent_homes, lent_is, lent_store, put_blocks, store_is}
-use Rattle.block_store.proofs.RoomLemmas.{room_in_pool, room_in_raw}
-use Rattle.block_store.proofs.StoredLemmas.{at_front, at_last, length-image_of, some_bytes, stored_has, stored_long, stored_moved, stored_push_none}
-use Rattle.block_store.proofs.TurnLemmas.{Leads, Lies, Says, at_is, left_is, length-fresh, lies, new_leads, no_request, put_again, set_twice, sets_so, stays_so, turn_at}
-
-abbrev Slots : Type 0
-Slots = List (Option Guard)
-
-abbrev Arenas : Type 0
-Arenas = SourceView ArenaShape
-
-abbrev Raws : Type 0
-Raws = SourceView ℕ
+use Rattle.block_store.proofs.StoredLemmas.{at_front, at_last, length-image_of, some_bytes, stored_moved, stored_push_none}
+use Rattle.block_store.proofs.TurnLemmas.{Leads, Says, at_is, left_is, length-fresh, lies, new_leads, no_request, put_again, set_twice, sets_so, stays_so, turn_at}
+use Rattle.block_store.proofs.Types.{Arenas, Raws, Slots}
 
 abbrev some_extent : Extent → Option Extent
 some_extent e = Some e

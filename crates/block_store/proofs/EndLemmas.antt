@@ -1,12 +1,13 @@
 -- What the sources see while blocks and regions go back.
-use Rattle.std.proofs.Common.{◌≡◌, ℕ, List, [], refl, sym, subst, ◌∙◌}
+use Rattle.std.proofs.Common.{◌≡◌, List, [], refl, sym, subst, ◌∙◌}
 use Rattle.extents.specs.Extent.{Extent}
 use Rattle.extents.specs.Sums.{AllIn}
 use Rattle.sources.specs.Holder.{AskedNothing, Traded}
-use Rattle.sources.specs.Source.{ArenaShape, SourceView}
+use Rattle.sources.specs.Source.{SourceView}
 use Rattle.sources.proofs.CallerLemmas.{traded_nothing, traded_then}
 use Rattle.domain_api.specs.Held.{AreAskedNothing}
 use Rattle.block_store.specs.Sources.{Rests}
+use Rattle.block_store.proofs.Types.{Arenas, Raws}
 
 asked_nothing_then : {S : Type 0} (a b c : SourceView S) → AskedNothing a b → AskedNothing b c → AskedNothing a c
 asked_nothing_then a b c first second = record {
@@ -14,12 +15,6 @@ asked_nothing_then a b c first second = record {
   refused = second.refused ∙ first.refused;
   plan = second.plan ∙ first.plan;
 }
-
-abbrev Arenas : Type 0
-Arenas = SourceView ArenaShape
-
-abbrev Raws : Type 0
-Raws = SourceView ℕ
 
 -- at the start nothing was asked, and nothing has come or gone
 pub nothing_yet : (arenas : Arenas) (raws : Raws) → AreAskedNothing arenas arenas raws raws

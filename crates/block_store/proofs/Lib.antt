@@ -7,3 +7,4 @@ mod RoomLemmas
 mod SpotLemmas
 mod StoredLemmas
 mod TurnLemmas
+mod Types

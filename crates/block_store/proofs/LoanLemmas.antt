@@ -8,7 +8,6 @@ use Rattle.mem_base.specs.declared.trace.Letter.{Letter}
 use Rattle.extents.specs.Extent.{Extent}
 use Rattle.extents.specs.Sums.{Has, Inserted, Removed}
 use Rattle.extents.proofs.CallerLemmas.{has_either, has_left, has_right, inserted_left, inserted_right}
-use Rattle.sources.specs.Source.{ArenaShape, SourceView}
 use Rattle.debug_guard.specs.Guard.{Guard, guard_extent}
 use Rattle.py_heap.specs.Heap.{HeapView, empty_heap}
 use Rattle.layout_model.specs.Sizes.{class_of, need}
@@ -20,15 +19,7 @@ use Rattle.block_store.specs.Homes.{Places, home_at}
 use Rattle.block_store.specs.Slots.{IsStore, IsStored, block_in, blocks_of, loans_of}
 use Rattle.block_store.proofs.HomeLemmas.{SameHomes, blocks_same, home_of_raw, home_where_placed, home_where_freed, loans_apart}
 use Rattle.block_store.proofs.StoredLemmas.{stored_has, stored_long, stored_more, stored_fewer, stored_kept, stored_none, stored_pop_none, stored_pop_some, last_has, none_in}
-
-abbrev Slots : Type 0
-Slots = List (Option Guard)
-
-abbrev Arenas : Type 0
-Arenas = SourceView ArenaShape
-
-abbrev Raws : Type 0
-Raws = SourceView ℕ
+use Rattle.block_store.proofs.Types.{Arenas, Raws, Slots}
 
 -- the blocks of the slots are just those of both heaps
 pub store_is : (slots : Slots) (d : DomainsView) (arenas : Arenas) (raws : Raws) → IsStored slots (loans_of d) → AreSound d.heap d.raws → AreHeld d arenas raws → IsStore slots d

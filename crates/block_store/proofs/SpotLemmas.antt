@@ -12,7 +12,7 @@ use Rattle.extents.specs.Extent.{covers}
 use Rattle.extents.specs.Sums.{tally, Has}
 use Rattle.debug_guard.specs.Guard.{Guard, guard_extent, piece_of}
 use Rattle.extents.proofs.CallerLemmas.{has_left, has_right}
-use Rattle.block_store.specs.Homes.{Places, home_at}
+use Rattle.block_store.specs.Homes.{Places}
 use Rattle.block_store.specs.Slots.{IsStore, block_in, block_of, blocks_of, extents_of, pieces_of, piece_in}
 use Rattle.block_store.specs.Spots.{names, has_address, living, spots_from, spot_at, AreSpots, GoUpFrom, IsSpot, LiesInOne}
 use Rattle.block_store.specs.Store.{view_of}

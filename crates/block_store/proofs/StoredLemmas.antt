@@ -18,6 +18,21 @@ Slot = Option Guard
 abbrev at : List Slot → ℕ → Slot
 at slots i = get_or slots i None
 
+-- each block begins at a multiple of 16
+abbrev AreAligned : List Slot → Type 0
+AreAligned slots = (j : ℕ) (g : Guard) → at slots j ≡ Some g → g.place % 16 ≡ 0
+
+-- they do so too once one slot is set
+aligned_set : (slots : List Slot) (i : ℕ) (o : Slot) → i < length slots → ((g : Guard) → o ≡ Some g → g.place % 16 ≡ 0)
+    → AreAligned slots → AreAligned (set slots i o)
+aligned_set slots i o lt new old j g is = elim (eqb_tells j i) [
+  | inl here ↦ new g (sym (get_or-set_same slots i o None lt) ∙ ap (at (set slots i o)) (sym here.1) ∙ is)
+  | inr away ↦ old j g (sym (get_or-set_other slots i j o None away.1) ∙ is)
+]
+
+aligned_some : (g h : Guard) → g.place % 16 ≡ 0 → Some g ≡ Some h → h.place % 16 ≡ 0
+aligned_some g h aligned same = let e : g ≡ h = cc in subst (λ (x : Guard). x.place % 16 ≡ 0) e aligned
+
 -- a block comes into a free slot
 more_extents : (slots : List Slot) (i : ℕ) (g : Guard) → i < length slots → at slots i ≡ None → Inserted (guard_extent g) (extents_of slots) (extents_of (set slots i (Some g)))
 more_extents [] i g lt free = absurd (omega arith)
@@ -79,13 +94,7 @@ stored_more slots loans more i g stored lt free added apart aligned =
       lent = all_in_more e (extents_of slots) (extents_of (set slots i (Some g))) loans more mine added stored.lent;
       all = λ f. omega (arith, tally_inserted f e (extents_of slots) (extents_of (set slots i (Some g))) mine, tally_inserted f e loans more added, stored.all f);
       apart = apart;
-      aligned = λ j h is. elim (eqb_tells j i) [
-        | inl here ↦
-            let same : Some g ≡ Some h = sym (get_or-set_same slots i (Some g) None lt) ∙ ap (at (set slots i (Some g))) (sym here.1) ∙ is in
-            let e : g ≡ h = cc in
-            subst (λ (x : Guard). x.place % 16 ≡ 0) e aligned
-        | inr away ↦ stored.aligned j h (sym (get_or-set_other slots i j (Some g) None away.1) ∙ is)
-      ];
+      aligned = aligned_set slots i (Some g) lt (λ h. aligned_some g h aligned) stored.aligned;
     }
 
 pub stored_fewer : (slots : List Slot) (loans fewer : List Extent) (i : ℕ) (g : Guard) → IsStored slots loans → i < length slots → at slots i ≡ Some g
@@ -98,12 +107,7 @@ stored_fewer slots loans fewer i g stored lt is gone apart =
       lent = all_in_fewer e (extents_of slots) (extents_of (set slots i None)) loans fewer (some_bytes g) own mine gone stored.lent;
       all = λ f. omega (arith, tally_inserted f e (extents_of (set slots i None)) (extents_of slots) mine, tally_inserted f e fewer loans gone, stored.all f);
       apart = apart;
-      aligned = λ j h there. elim (eqb_tells j i) [
-        | inl here ↦
-            let none : None ≡ Some h = sym (get_or-set_same slots i None None lt) ∙ ap (at (set slots i None)) (sym here.1) ∙ there in
-            absurd cc
-        | inr away ↦ stored.aligned j h (sym (get_or-set_other slots i j None None away.1) ∙ there)
-      ];
+      aligned = aligned_set slots i None lt (λ h none. absurd cc) stored.aligned;
     }
 
 -- a block h comes, and then the block g of a slot goes: h takes its slot
@@ -132,14 +136,9 @@ stored_moved slots loans between now i g h stored lt is added middle gone apart 
         stored.all f,
       );
       apart = apart;
-      aligned = λ j k there. elim (eqb_tells j i) [
-        | inl here ↦
-            let same : Some h ≡ Some k = sym (get_or-set_same rest i (Some h) None long) ∙ ap (at (set rest i (Some h))) (sym here.1) ∙ there in
-            let e : h ≡ k = cc in
-            subst (λ (x : Guard). x.place % 16 ≡ 0) e aligned
-        | inr away ↦
-            stored.aligned j k (sym (get_or-set_other slots i j None None away.1) ∙ sym (get_or-set_other rest i j (Some h) None away.1) ∙ there)
-      ];
+      aligned =
+          aligned_set rest i (Some h) long (λ k. aligned_some h k aligned)
+          (aligned_set slots i no_slot lt (λ k none. absurd cc) stored.aligned);
     }
   where
     no_slot : Slot
@@ -152,13 +151,9 @@ stored_same slots loans i g h stored lt is same =
       lent = subst (λ (l : List Extent). AllIn l loans) (sym kept) stored.lent;
       all = λ f. ap (tally f) kept ∙ stored.all f;
       apart = stored.apart;
-      aligned = λ j k there. elim (eqb_tells j i) [
-        | inl here ↦
-            let now : Some h ≡ Some k = sym (get_or-set_same slots i (Some h) None lt) ∙ ap (at (set slots i (Some h))) (sym here.1) ∙ there in
-            let e : h ≡ k = cc in
-            ap (λ (x : Guard). x.place % 16) (sym e) ∙ ap (λ (d : Extent). d.place % 16) same ∙ stored.aligned i g is
-        | inr away ↦ stored.aligned j k (sym (get_or-set_other slots i j (Some h) None away.1) ∙ there)
-      ];
+      aligned =
+          aligned_set slots i (Some h) lt
+          (λ k. aligned_some h k (ap (λ (d : Extent). d.place % 16) same ∙ stored.aligned i g is)) stored.aligned;
     }
 
 -- a slot keeps where its block lies, whether it has one or not

@@ -44,9 +44,7 @@ use Rattle.block_store.proofs.HomeLemmas.{home_of_freed, home_of_new, home_of_ra
 use Rattle.block_store.proofs.RoomLemmas.{room_in_pool, room_in_raw}
 use Rattle.block_store.proofs.LoanLemmas.{gone_homes, gone_store, gone_stored, drop_blocks, left_others, lent_homes, lent_store, put_blocks}
 use Rattle.block_store.proofs.StoredLemmas.{length-image_of, some_bytes}
-
-abbrev Slots : Type 0
-Slots = List (Option Guard)
+use Rattle.block_store.proofs.Types.{Slots}
 
 abbrev no_guard : Option Guard
 no_guard = None

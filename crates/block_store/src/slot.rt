@@ -1,5 +1,6 @@
 //! One slot: a block comes, goes, or is written or read.
-ghost use Rattle.std.specs.Prelude.{◌≡◌, ◌<◌, ◌≤◌, List, [], length, get_or, replicate, slice_set, sum_by, vec_capacity, IfOk, IfSome, IfNone, None, Some};
+ghost use Rattle.std.specs.Prelude.{◌≡◌, ◌<◌, ◌≤◌, List, [], length, get_or, replicate};
+ghost use Rattle.std.specs.Prelude.{slice_set, sum_by, vec_capacity, IfOk, IfSome, IfNone, None, Some};
 ghost use Rattle.std.specs.Option.{option_copied, option_map};
 ghost use Rattle.mem_base.specs.Name.{Name};
 ghost use Rattle.mem_base.specs.Offset.{IsOffset};

@@ -60,10 +60,13 @@ fn totals_of(slots: &[Option<Guarded>]) -> StoreTotals
 }
 
 impl Store {
-    ghost use Rattle.event_model.specs.Memory.{calloc_call, free_turn, malloc_call, peek_turn, poke_turn, realloc_call};
-    ghost use Rattle.block_store.specs.Sources.{AreHeld, ArenasServe, CanAsk, Fails, FailsUnrefused, IsPassedOn, RawsServe, Rests};
+    ghost use Rattle.event_model.specs.Memory.{calloc_call, free_turn, malloc_call};
+    ghost use Rattle.event_model.specs.Memory.{peek_turn, poke_turn, realloc_call};
+    ghost use Rattle.block_store.specs.Sources.{AreHeld, ArenasServe, CanAsk, Fails};
+    ghost use Rattle.block_store.specs.Sources.{FailsUnrefused, IsPassedOn, RawsServe, Rests};
     ghost use Rattle.block_store.specs.Spots.{AreSpots, living};
-    ghost use Rattle.block_store.specs.Store.{counts_in, empty_store, shape_in, sized_by, FitsCall, HoldsTheSame, IsTurn};
+    ghost use Rattle.block_store.specs.Store.{counts_in, empty_store, shape_in};
+    ghost use Rattle.block_store.specs.Store.{sized_by, FitsCall, HoldsTheSame, IsTurn};
 
     /// A store with no block at any of so many numbers. The error is want of memory.
     pub fn new(alloc: Global, count: usize) -> Result<Store, AllocError>
@@ -96,7 +99,8 @@ impl Store {
         requires ask { CanAsk self.old (A.seen arenas.old) (R.seen raws.old) }
         requires held { AreHeld self.old (A.seen arenas.old) (R.seen raws.old) }
         ensures turn { IfOk result (λ a.
-            IsTurn name.0 (sized_by (malloc_call call.letter size) call.locked a.asked) self.old self.new a.reply) }
+            IsTurn name.0 (sized_by (malloc_call call.letter size) call.locked a.asked)
+            self.old self.new a.reply) }
         ensures fits { IfOk result (λ a.
             FitsCall self.old name.0 (malloc_call call.letter size) call.locked a.asked) }
         ensures arenas { IfOk result (λ a.
@@ -136,7 +140,8 @@ impl Store {
         requires ask { CanAsk self.old (A.seen arenas.old) (R.seen raws.old) }
         requires held { AreHeld self.old (A.seen arenas.old) (R.seen raws.old) }
         ensures turn { IfOk result (λ a.
-            IsTurn name.0 (sized_by (calloc_call call.letter elements size) call.locked a.asked) self.old self.new a.reply) }
+            IsTurn name.0 (sized_by (calloc_call call.letter elements size) call.locked a.asked)
+            self.old self.new a.reply) }
         ensures fits { IfOk result (λ a.
             FitsCall self.old name.0 (calloc_call call.letter elements size) call.locked a.asked) }
         ensures arenas { IfOk result (λ a.
@@ -175,7 +180,8 @@ impl Store {
         requires ask { CanAsk self.old (A.seen arenas.old) (R.seen raws.old) }
         requires held { AreHeld self.old (A.seen arenas.old) (R.seen raws.old) }
         ensures turn { IfOk result (λ a.
-            IsTurn name.0 (sized_by (realloc_call call.letter size) call.locked a.asked) self.old self.new a.reply) }
+            IsTurn name.0 (sized_by (realloc_call call.letter size) call.locked a.asked)
+            self.old self.new a.reply) }
         ensures fits { IfOk result (λ a.
             FitsCall self.old name.0 (realloc_call call.letter size) call.locked a.asked) }
         ensures arenas { IfOk result (λ a.

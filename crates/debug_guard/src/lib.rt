@@ -11,9 +11,9 @@
 //! | n+16 to n+23 | FD |
 //!
 //! The size word is written by `dress` alone, and anew by `resize`. What follows it is the block's
-//! body: `poke` and `peek` reach all of it, by offsets from the data's start. `check` looks at it in the order of
-//! `_PyMem_DebugCheckAddress`: the letter, the pads before the data, those behind it. It answers the
-//! first byte that is not as `dress` wrote it, where that function ends the process.
+//! body: `poke` and `peek` reach all of it, by offsets from the data's start. `check` looks at it in
+//! the order of `_PyMem_DebugCheckAddress`: the letter, the pads before the data, those behind it. It
+//! answers the first byte that is not as `dress` wrote it, where that function ends the process.
 //!
 //! A realloc (`_PyMem_DebugRawRealloc`) either writes the block anew around its data, by `resize`, or
 //! dresses another one and copies the data to it, by `carry`. That function saves the data at both

@@ -25,7 +25,8 @@ ghost use Rattle.request_model.specs.Counts.{raw_asks, raw_refusals};
 ghost use Rattle.request_model.specs.Decision.{asks, call_fault, decision, request};
 ghost use Rattle.sources.specs.Holder.{Answered, AskedUnrefused, Traded};
 ghost use Rattle.py_heap.specs.Heap.{empty_heap, regions_of};
-ghost use Rattle.domain_api.specs.Domains.{IsFreed, IsGivenUp, IsMade, IsTakenBy, IsTakenRaw, request_of, view_of_both};
+ghost use Rattle.domain_api.specs.Domains.{IsFreed, IsGivenUp, IsMade, IsTakenBy};
+ghost use Rattle.domain_api.specs.Domains.{IsTakenRaw, request_of, view_of_both};
 ghost use Rattle.domain_api.specs.Held.{AreAnswered, AreAskedNothing, AreAskedOnce, AreHeld, AreSound};
 ghost use Rattle.domain_api.specs.Held.{AreTraded, CanAsk, HasCounts, IsLoan, SamePlans};
 
@@ -232,7 +233,8 @@ impl Domains {
 
         // What block there is.
         ensures made { IfOk result (λ made.
-            IsMade wanted.letter wanted.n (fill_of wanted.zero) locked self.old self.new made.got made.asked) }
+            IsMade wanted.letter wanted.n (fill_of wanted.zero) locked
+            self.old self.new made.got made.asked) }
         ensures failed { OnErr result (self.new ≡ self.old) }
         ensures came_to_ask { OnErr result (decision wanted.letter wanted.n locked None ≡ asks) }
 

@@ -5,12 +5,13 @@
 //!
 //! | Layout | Tables |
 //! |---|---|
-//! | `used`, the pools with free blocks by class, each with its number, arena and blocks in use | `lists`, the spots of those pools by class |
+//! | `used`, the pools with free blocks by class | `lists`, the spots of those pools by class |
 //! | `full`, the full pools by number | `started`, all pools with blocks in use, in any order |
 //! | the length of `full` | `taken`, the number of pools taken so far |
 //! | `usable`, `dry`, `given`, `back`, `most` | the same |
 //!
-//! A spot is a place for a pool: an arena, and how many places of that arena stand before it.
+//! In `used` a pool has its number, its arena and how many of its blocks are in use. A spot is a place
+//! for a pool: an arena, and how many places of that arena stand before it.
 //! `layout_of` makes the layout of tables, and `IsKept` says what is true of tables between a heap's
 //! calls. The laws below take one case each of a block that is taken or freed. They say that the
 //! tables stay kept where they change as that case has it, that their layout becomes the one that
@@ -22,7 +23,11 @@ ghost use Rattle.layout_model.specs.Layout.{empty_layout};
 ghost use Rattle.heap_model.specs.Tables.{empty_tables};
 ghost use Rattle.heap_model.specs.View.{layout_of};
 ghost use Rattle.heap_model.specs.Kept.{IsKept};
-ghost use Rattle.heap_model.specs.Laws.{OneMoreIsPlaced, LastOneIsPlaced, NewPoolIsPlaced, NewArenaIsPlaced, RefusedIsNotPlaced, FreedFullIsUnplaced, FreedOneIsUnplaced, DryArenaGetsPool, UsableArenaIsPut, WholeArenaGoesBack, PoolComesBack, FirstHasRoom, PoolIsListed, PlacesAreOfPools, ListsHaveOpenPools, ArenasAreFree, StartedAndLent, MendedAndGone, NewArenaGives};
+ghost use Rattle.heap_model.specs.Laws.{OneMoreIsPlaced, LastOneIsPlaced, NewPoolIsPlaced, NewArenaIsPlaced};
+ghost use Rattle.heap_model.specs.Laws.{RefusedIsNotPlaced, FreedFullIsUnplaced, FreedOneIsUnplaced};
+ghost use Rattle.heap_model.specs.Laws.{DryArenaGetsPool, UsableArenaIsPut, WholeArenaGoesBack, PoolComesBack};
+ghost use Rattle.heap_model.specs.Laws.{FirstHasRoom, PoolIsListed, PlacesAreOfPools, ListsHaveOpenPools};
+ghost use Rattle.heap_model.specs.Laws.{ArenasAreFree, StartedAndLent, MendedAndGone, NewArenaGives};
 ghost use Rattle.heap_model.specs.Ground.{AddressFindsPool, PoolsDoNotMeet, PlacesDiffer};
 
 /// Empty tables are kept, and stand for the empty layout.

@@ -2,7 +2,8 @@
 //! `tracemalloc_filenames`. A number is the index at which the text came, so numbers stay as the table
 //! grows. The unknown text, which stands for the file where there is no frame, is number 0.
 
-ghost use Rattle.std.specs.Prelude.{◌≡◌, ℕ, ◌<◌, ◌≤◌, ◌-◌, ◌^◌, ◌++◌, ◌∷◌, [], length, slice_get, IfOk, OnErr, OnOk, IsOk, IfNone, IfSome, Some, Contains, codes};
+ghost use Rattle.std.specs.Prelude.{◌≡◌, ℕ, ◌<◌, ◌≤◌, ◌-◌, ◌^◌, ◌++◌, ◌∷◌, []};
+ghost use Rattle.std.specs.Prelude.{length, slice_get, IfOk, OnErr, OnOk, IsOk, IfNone, IfSome, Some, Contains, codes};
 ghost use Rattle.std.specs.List.{position};
 ghost use Rattle.std.specs.Str.{bytes_eq};
 ghost use Rattle.std.specs.Hash.{on_Alike, same_Alike};

@@ -20,7 +20,8 @@
 //! `_PyMem_DebugCheckGIL`, `_PyMem_DebugCheckAddress` and `_PyMem_DebugRawAlloc` of the debug hooks.
 #![tactic(auto)]
 
-ghost use Rattle.request_model.specs.Laws.{TooGreatExactly, FaultsExactly, AsksExactly, FitsInPlaceExactly, ThreeQuartersMove, OneMoreCounts, FewAreAsked};
+ghost use Rattle.request_model.specs.Laws.{TooGreatExactly, FaultsExactly, AsksExactly, FitsInPlaceExactly};
+ghost use Rattle.request_model.specs.Laws.{ThreeQuartersMove, OneMoreCounts, FewAreAsked};
 
 /// When a size is too great, when a call comes to its fault, and when a source may be asked.
 pub fn sizes_and_faults_decide()

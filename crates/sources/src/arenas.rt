@@ -3,7 +3,8 @@
 //! The arenas stand in slots of a mebibyte, side by side. A request takes the least free slot, and a
 //! slot whose arena came back is free again.
 
-ghost use Rattle.std.specs.Prelude.{◌≡◌, ℕ, ◌+◌, ◌^◌, ◌<◌, ◌≤◌, ◌↔◌, [], length, get_or, None, Some, IsSome};
+ghost use Rattle.std.specs.Prelude.{◌≡◌, ℕ, ◌+◌, ◌^◌, ◌<◌, ◌≤◌};
+ghost use Rattle.std.specs.Prelude.{◌↔◌, [], length, get_or, None, Some, IsSome};
 ghost use Rattle.std.specs.Prelude.{IfOk, OnOk, OnErr, IsErrOf, MatchBool};
 ghost use Rattle.raw_region.specs.Cells.{AllHome};
 ghost use Rattle.extents.specs.Extent.{region_extent};
@@ -56,7 +57,8 @@ impl Model for MemArenas {
       out = slots_out (first_slot a.skew) a.slots.items;
     } };
 
-    ghost invariant = { λ a. AreSlots a.slots.items a.skew a.held a.max × AreTold a.slots.items a.taken.items };
+    ghost invariant = { λ a. AreSlots a.slots.items a.skew a.held a.max
+        × AreTold a.slots.items a.taken.items };
 }
 
 // Slots of which none is taken.

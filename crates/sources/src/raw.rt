@@ -2,7 +2,8 @@
 //!
 //! The regions stand one past the other, each at a multiple of 16, and no address is used twice.
 
-ghost use Rattle.std.specs.Prelude.{◌≡◌, ◌+◌, ◌-◌, ◌^◌, ◌<◌, ◌≤◌, ◌⊎◌, ◌↔◌, [], Some, MatchBool, IfOk, OnOk, OnErr, IsErrOf};
+ghost use Rattle.std.specs.Prelude.{◌≡◌, ◌+◌, ◌-◌, ◌^◌, ◌<◌, ◌≤◌, ◌⊎◌};
+ghost use Rattle.std.specs.Prelude.{◌↔◌, [], Some, MatchBool, IfOk, OnOk, OnErr, IsErrOf};
 ghost use Rattle.raw_region.specs.Cells.{AllHome};
 ghost use Rattle.extents.specs.Extent.{begins, region_extent};
 ghost use Rattle.extents.specs.Sums.{tally, Has, Inserted, Removed};

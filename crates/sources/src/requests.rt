@@ -1,5 +1,6 @@
 //! The requests that were made of a source, and those that it is to refuse.
-ghost use Rattle.std.specs.Prelude.{◌≡◌, ◌+◌, ◌^◌, ◌<◌, ◌≤◌, ◌||◌, not, [], OnOk, OnErr, if◌then◌else◌};
+ghost use Rattle.std.specs.Prelude.{◌≡◌, ◌+◌, ◌^◌, ◌<◌, ◌≤◌};
+ghost use Rattle.std.specs.Prelude.{◌||◌, not, [], OnOk, OnErr, if◌then◌else◌};
 ghost use Rattle.sources.specs.Memory.{is_listed, ListsAlso};
 
 use std::alloc::{AllocError, Global};

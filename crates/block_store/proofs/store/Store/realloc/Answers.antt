@@ -1,4 +1,4 @@
-use Rattle.std.proofs.Common.{◌≡◌, List, None, Option, Some, get_or, set, sym, ap, subst, ◌∙◌}
+use Rattle.std.proofs.Common.{◌≡◌, Option, Some, set, sym, ap, subst, ◌∙◌}
 use Rattle.block_model.specs.Block.{new_byte}
 use Rattle.debug_guard.specs.Guard.{Guard}
 use Rattle.layout_model.specs.Asks.{FitsRequest}
@@ -9,10 +9,8 @@ use Rattle.block_store.specs.Store.{IsTurn, StoreView, block_at, sized_by, view_
 use Rattle.block_store.proofs.ChangeLemmas.{changed_fits, changed_store, changed_turn}
 use Rattle.block_store.proofs.LoanLemmas.{slot_loan}
 use Rattle.block_store.proofs.TurnLemmas.{emptied, made_store, made_turn, put_again, slot_is, slots_length}
+use Rattle.block_store.proofs.Types.{Slots}
 use Rattle.block_store.proofs.store.Store.realloc.Goals as goal
-
-abbrev Slots : Type 0
-Slots = List (Option Guard)
 
 -- ---- a name that holds nothing
 

@@ -1,4 +1,4 @@
-use Rattle.std.proofs.Common.{◌≡◌, ◌∙◌, ℕ, List, ap, arith, inl, inr, refl, sym, subst}
+use Rattle.std.proofs.Common.{◌≡◌, ◌∙◌, ℕ, ap, arith, inl, inr, refl, sym, subst}
 use Rattle.py_heap.specs.Heap.{HeapView, regions_of}
 use Rattle.extents.specs.Extent.{Extent, covers, piece_extent}
 use Rattle.extents.specs.Sums.{tally, Has, Removed}

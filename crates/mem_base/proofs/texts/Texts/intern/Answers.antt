@@ -1,4 +1,4 @@
-use Rattle.std.proofs.Common.{◌≡◌, ℕ, ◌<◌, ◌^◌, ◌-◌, List, length, slice_get, Some, sym, ap, subst, ◌∙◌}
+use Rattle.std.proofs.Common.{ℕ, ◌<◌, ◌^◌, ◌-◌, List, length, sym, ap, subst, ◌∙◌}
 use Rattle.mem_base.specs.Texts.{texts_of, with_text, IsTable}
 use Rattle.mem_base.proofs.TextLemmas.{interned, interned_table, stored_at}
 use Rattle.mem_base.proofs.texts.Texts.intern.Goals as goal
