@@ -1,6 +1,7 @@
 //! Reading to the end, and writing the whole of a piece.
 
-ghost use Rattle.std.specs.Prelude.{◌≡◌, ◌<◌, ◌≤◌, ◌⊎◌, ℕ, length, Some, MatchResult, IfOk, OnOk, OnErr, IsErrOf};
+ghost use Rattle.std.specs.Prelude.{◌≡◌, ◌<◌, ◌≤◌, ◌⊎◌, ℕ, length};
+ghost use Rattle.std.specs.Prelude.{Some, MatchResult, IfOk, OnOk, OnErr, IsErrOf};
 ghost use Rattle.std.specs.Io.KnownBytes.{Consumes, Appends, IsAtEnd};
 ghost use Rattle.streams.specs.declared.all.ReadError.TheVariants.{Failed as ReadFailed, OutOfMemory};
 ghost use Rattle.streams.specs.Faults.{CountsFaults, faults_after};
@@ -49,9 +50,12 @@ pub fn read_all<I: Source>(alloc: Global, input: &mut I, max: u64) -> Result<Lis
     ensures short { IfOk result (λ bytes. length bytes ≤ max) }
 
     // What an error leaves, and when it comes.
-    ensures failed { IsErrOf result ReadError.Failed → GaveWithin (I.left input.old) (I.left input.new) max }
-    ensures too_long { IsErrOf result ReadError.TooLong → GavePast (I.left input.old) (I.left input.new) max }
-    ensures no_memory { IsErrOf result ReadError.OutOfMemory → GaveWithin (I.left input.old) (I.left input.new) max }
+    ensures failed { IsErrOf result ReadError.Failed
+        → GaveWithin (I.left input.old) (I.left input.new) max }
+    ensures too_long { IsErrOf result ReadError.TooLong
+        → GavePast (I.left input.old) (I.left input.new) max }
+    ensures no_memory { IsErrOf result ReadError.OutOfMemory
+        → GaveWithin (I.left input.old) (I.left input.new) max }
     ensures past { IsToldPast (I.left input.old) (I.left input.new) max → IsErrOf result ReadError.TooLong }
 
     // The first read that fails ends it, and no other answer comes after a fault.

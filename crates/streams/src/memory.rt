@@ -3,7 +3,8 @@
 //! Both say exactly when they fail: the source at one call that it is told when it is made, and the
 //! sink where its room is used up.
 
-ghost use Rattle.std.specs.Prelude.{◌≡◌, ◌≤◌, ◌<◌, ◌-◌, [], length, take, min, IfOk, IsErr, IsTrue, ◌↔◌, Some};
+ghost use Rattle.std.specs.Prelude.{◌≡◌, ◌≤◌, ◌<◌, ◌-◌, [], length};
+ghost use Rattle.std.specs.Prelude.{take, min, IfOk, IsErr, IsTrue, ◌↔◌, Some};
 ghost use Rattle.std.specs.Io.{ReadsAtMost, WritesAtMost};
 ghost use Rattle.std.specs.Io.KnownBytes.{ReadConsumes, WriteAppends};
 ghost use Rattle.streams.specs.Faults.{CountsFaults};
@@ -160,8 +161,10 @@ impl Sink for MemSink {
         ensures counted { CountsFaults self.old.faults self.new.faults result }
 
         // It fails exactly where there is something to take and no room, and else takes what fits.
-        ensures fails { IsErr result ↔ ((0 < length piece.now) × (self.old.limit ≤ length self.old.written)) }
-        ensures count { IfOk result (λ n. n ≡ min (length piece.now) (self.old.limit - length self.old.written)) }
+        ensures fails { IsErr result
+            ↔ ((0 < length piece.now) × (self.old.limit ≤ length self.old.written)) }
+        ensures count { IfOk result (λ n.
+            n ≡ min (length piece.now) (self.old.limit - length self.old.written)) }
         ensures limit { self.new.limit ≡ self.old.limit }
     {
         let count = piece.len().min(self.limit - self.bytes.len());

@@ -64,7 +64,8 @@ impl<R: Read> Source for StdSource<R> {
 
     fn read(&mut self, buf: &mut [u8]) -> Result<usize, Failed>
         ensures bound { ReadsAtMost result buf.new }
-        ensures bytes { ReadConsumes (R.remaining self.old.inner) (R.remaining self.new.inner) result buf.new }
+        ensures bytes { ReadConsumes
+            (R.remaining self.old.inner) (R.remaining self.new.inner) result buf.new }
         ensures end { 0 < length buf.old → IfOk result (IsZeroAtEnd (R.remaining self.old.inner)) }
         ensures counted { CountsFaults self.old.faults self.new.faults result }
     {
@@ -83,7 +84,8 @@ impl<W: Write> Sink for StdSink<W> {
     fn write(&mut self, piece: &[u8]) -> Result<usize, Failed>
         ensures bound { WritesAtMost result piece.now }
         ensures some { 0 < length piece.now → IfOk result (λ n. 0 < n) }
-        ensures bytes { WriteAppends (W.contents self.old.inner) (W.contents self.new.inner) result piece.now }
+        ensures bytes { WriteAppends
+            (W.contents self.old.inner) (W.contents self.new.inner) result piece.now }
         ensures counted { CountsFaults self.old.faults self.new.faults result }
     {
         match self.inner.write(piece) {
@@ -98,7 +100,8 @@ impl<W: Write + Drop> StdSink<BufWriter<W>> {
     /// buffer.
     pub fn flush(&mut self) -> Result<(), Failed>
         ensures none_back { OnOk result (writer_buffer self.new.inner ≡ []) }
-        ensures bytes { Keeps (writer_contents W.contents self.old.inner) (writer_contents W.contents self.new.inner) }
+        ensures bytes { Keeps
+            (writer_contents W.contents self.old.inner) (writer_contents W.contents self.new.inner) }
         ensures counted { CountsFaults self.old.faults self.new.faults result }
     {
         match self.inner.flush() {

@@ -19,7 +19,8 @@
 //! tracing itself takes is not counted. The definitions stand in `specs/`; the functions are the laws.
 #![tactic(auto)]
 
-ghost use Rattle.tracing_model.specs.Laws.{KeysHoldTheirs, OnlyStartsBegin, PeakBegins, PeakRises, StayDistinct, SumsChangeByOne};
+ghost use Rattle.tracing_model.specs.Laws.{KeysHoldTheirs, OnlyStartsBegin, PeakBegins};
+ghost use Rattle.tracing_model.specs.Laws.{PeakRises, StayDistinct, SumsChangeByOne};
 
 /// A key has the trace that it got, each other key has its own, no key comes to have two, and the sum of
 /// all sizes changes by what the one key had and has.
