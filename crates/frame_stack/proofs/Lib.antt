@@ -1,1 +1,3 @@
+pub mod CallerLemmas
+mod StackLemmas
 mod TableLemmas

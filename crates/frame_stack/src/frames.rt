@@ -1,5 +1,6 @@
 //! The frames of a track, as calls come, go on to another line and return.
-ghost use Rattle.std.specs.Prelude.{◌≡◌, ◌-◌, ◌^◌, ◌<◌, ◌≤◌, [], length, slice_get, IfOk, OnOk, OnErr, Some};
+ghost use Rattle.std.specs.Prelude.{◌≡◌, ◌-◌, ◌^◌, ◌<◌, ◌≤◌, [], length, nat_le, slice_get, IfOk, OnOk};
+ghost use Rattle.std.specs.Prelude.{OnErr, Some};
 ghost use Rattle.mem_base.specs.declared.reply.Frame.{Frame};
 ghost use Rattle.frame_model.specs.Frames.{frames_below, frames_on, frames_with, recent, total};
 ghost use Rattle.frame_stack.specs.Tracebacks.{at_line, unknown_frame, IsInterned};
@@ -40,28 +41,37 @@ impl Frames {
     /// the frames as they were.
     pub fn enter(&mut self, file: TextId, line: u32) -> Result<(), AllocError>
         requires { length self.old < 65535 }
-        ensures entered { OnOk result (self.new ≡ frames_with self.old (record { file = file; line = line })) }
+        ensures entered { OnOk result
+            (self.new ≡ frames_with self.old (record { file = file; line = line })) }
         ensures err { OnErr result (self.new ≡ self.old) }
     {
         self.frames.push(Frame { file, line })?;
         Ok(())
     }
 
-    /// The most recent frame goes on to another line.
+    /// Whether there are as many frames as a track can have.
+    pub fn is_full(&self) -> bool
+        ensures { result ≡ nat_le 65535 (length self.now) }
+    {
+        self.frames.len() >= 65_535
+    }
+
+    /// The most recent frame goes on to another line. Where there is none, nothing changes.
     pub fn line(&mut self, line: u32)
-        requires { 1 ≤ length self.old }
         ensures { self.new ≡ frames_on (at_line line) self.old }
     {
+        if self.frames.is_empty() {
+            return;
+        }
         let last = self.frames.len() - 1;
         self.frames[last].line = line;
     }
 
-    /// A return: the most recent frame goes.
+    /// A return: the most recent frame goes. Where there is none, nothing changes.
     pub fn leave(&mut self)
-        requires { 1 ≤ length self.old }
         ensures { self.new ≡ frames_below self.old }
     {
-        let last = self.frames.len() - 1;
+        let last = self.frames.len().saturating_sub(1);
         self.frames.truncate(last);
     }
 
@@ -90,7 +100,8 @@ const UNKNOWN: [Frame; 1] = [Frame {
 /// error is that there was no memory, and leaves the table as it was.
 pub fn recent(frames: &Frames, n: u32, table: &mut Tracebacks) -> Result<TbId, AllocError>
     requires { length table.old < 2 ^ 32 - 1 }
-    ensures number { IfOk result (λ id. slice_get table.new id.0 ≡ Some (recent unknown_frame n frames.now)) }
+    ensures number { IfOk result (λ id.
+        slice_get table.new id.0 ≡ Some (recent unknown_frame n frames.now)) }
     ensures table { OnOk result (IsInterned (recent unknown_frame n frames.now) table.old table.new) }
     ensures err { OnErr result (table.new ≡ table.old) }
 {

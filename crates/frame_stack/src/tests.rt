@@ -53,3 +53,29 @@ fn nine_frames_have_a_number_too(rt: HostRuntime) -> Result<(), Fail> {
     assert_eq!(rt; again, nine);
     Ok(())
 }
+
+// The frames change between the second and the third, and are those of the first again at the end.
+#[test]
+fn a_number_stays_while_the_frames_do(rt: HostRuntime) -> Result<(), Fail> {
+    let mut callers = Callers::new(rt.alloc(), 2, 3)?;
+    callers.enter(1, TextId(1), 3)?;
+    let first = callers.recent(1, 2)?;
+    assert!(rt; callers.frames(first) == [MAIN].as_slice());
+    let again = callers.recent(1, 2)?;
+    callers.enter(1, TextId(2), 9)?;
+    let deeper = callers.recent(1, 2)?;
+    callers.line(1, 10);
+    let further = callers.recent(1, 2)?;
+    assert!(rt; callers.frames(further) == [MAIN, LOAD].as_slice());
+    let other = callers.recent(0, 2)?;
+    assert!(rt; callers.frames(other) == [UNKNOWN].as_slice());
+    callers.leave(1);
+    let back = callers.recent(1, 2)?;
+    assert!(rt; callers.frames(back) == [MAIN].as_slice());
+    assert_eq!(rt;
+        (first, again, deeper, further, other, back),
+        (TbId(0), TbId(0), TbId(1), TbId(2), TbId(3), TbId(0))
+    );
+    assert_eq!(rt; (callers.total(1), callers.total(0)), (1, 1));
+    Ok(())
+}

@@ -1,5 +1,5 @@
 //! A table of tracebacks.
-ghost use Rattle.std.specs.Prelude.{◌≡◌, ◌<◌, ◌-◌, ◌^◌, [], length, slice_get, IfOk, OnOk, OnErr, Some};
+ghost use Rattle.std.specs.Prelude.{◌≡◌, ◌<◌, ◌-◌, ◌^◌, [], false, length, slice_get, IfOk, OnOk, OnErr, Some};
 ghost use Rattle.frame_stack.specs.Tracebacks.{IsInterned, IsTable};
 
 use indexmap::IndexSet;
@@ -56,6 +56,13 @@ impl Tracebacks {
         let owned = SmallVec::from_slice(self.alloc, frames)?;
         let (at, _) = self.table.insert_full(owned)?;
         Ok(TbId(at as u32))
+    }
+
+    /// Whether there are as many tracebacks as there are numbers.
+    pub fn is_full(&self) -> bool
+        ensures { result ≡ false → length self.now < 2 ^ 32 - 1 }
+    {
+        self.table.len() >= u32::MAX as usize
     }
 
     /// The frames with that number, the oldest first.

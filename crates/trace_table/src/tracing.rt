@@ -1,5 +1,6 @@
 //! What is held while tracing.
-ghost use Rattle.std.specs.Prelude.{◌≡◌, ◌≤◌, ◌+◌, ◌↔◌, max, is_some, true, false, [], Some, None, IfOk, IfErr, IfSome, IfNone, IsOk, OnOk, OnErr, IsErrOf};
+ghost use Rattle.std.specs.Prelude.{◌≡◌, ◌≤◌, ◌+◌, ◌↔◌, max, is_some, true, false, []};
+ghost use Rattle.std.specs.Prelude.{Some, None, IfOk, IfErr, IfSome, IfNone, IsOk, OnOk, OnErr, IsErrOf};
 ghost use Rattle.std.specs.HashMap.{spare};
 ghost use Rattle.mem_base.specs.declared.limits.TheConstants.{MAX_FRAME_LIMIT};
 ghost use Rattle.trace_table.specs.Traces.{size_in, trace_at, traced_bytes, AreSmall, Changes};
@@ -114,9 +115,10 @@ impl Tracing {
         ensures nothing { IfNone self.old.limit ((self.new.traces ≡ []) × (self.new.peak ≡ 0)) }
         ensures goes_on { IfSome self.old.limit (λ _. self.new ≡ self.old) }
     {
-        if self.limit.is_none() {
-            self.limit = Some(limit);
+        if self.limit.is_some() {
+            return;
         }
+        self.limit = Some(limit);
     }
 
     /// Tracing stops, and all traces go.
@@ -189,6 +191,7 @@ impl Tracing {
     // Takes the trace of a key away.
     fn take_away(&mut self, key: TraceKey)
         ensures changes { ChangesOne key None self.old self.new }
+        ensures nothing { self.old.traces ≡ [] → self.new.traces ≡ [] }
         ensures spare { self.old.spare ≤ self.new.spare }
     {
         let gone = take_out(&mut self.traces, key);
@@ -208,6 +211,7 @@ impl Tracing {
     /// The trace of a block goes, where it has one.
     pub fn remove(&mut self, name: TextId)
         ensures changes { ChangesOne (keys.Block name) None self.old self.new }
+        ensures nothing { self.old.traces ≡ [] → self.new.traces ≡ [] }
         ensures spare { self.old.spare ≤ self.new.spare }
     {
         self.take_away(TraceKey::Block(name));
