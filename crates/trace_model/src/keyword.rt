@@ -6,7 +6,7 @@ ghost use Rattle.std.specs.Prelude.{◌≡◌, ◌<◌, ℕ, List, IfSome};
 ghost use Rattle.std.specs.Option.{option_map};
 ghost use Rattle.mem_base.specs.Name.{Name};
 ghost use Rattle.trace_model.specs.Plain.{action_of, keyword_of, keyword_text, keywords, name_of};
-ghost use Rattle.trace_model.specs.Plain.{prints_more, text_at, IsKnownAmong};
+ghost use Rattle.trace_model.specs.Plain.{prints_more, text_at, text_of, IsKnownAmong};
 ghost use Rattle.trace_model.specs.Spelling.{head_text};
 
 use mem_base::{Op, TextId};
@@ -22,6 +22,17 @@ pub enum Keyword {
     Free,
     Poke,
     Peek,
+    Call,
+    Line,
+    Return,
+    Start,
+    Stop,
+    Clear,
+    ResetPeak,
+    Traced,
+    Mark,
+    Unmark,
+    Where,
     Heap,
     Refuse,
 }
@@ -37,7 +48,7 @@ pub enum Head {
 
 impl Keyword {
     /// All keywords.
-    pub fn all() -> [Keyword; 10]
+    pub fn all() -> [Keyword; 21]
         ensures { result ≡ keywords }
     {
         [
@@ -49,6 +60,17 @@ impl Keyword {
             Keyword::Free,
             Keyword::Poke,
             Keyword::Peek,
+            Keyword::Call,
+            Keyword::Line,
+            Keyword::Return,
+            Keyword::Start,
+            Keyword::Stop,
+            Keyword::Clear,
+            Keyword::ResetPeak,
+            Keyword::Traced,
+            Keyword::Mark,
+            Keyword::Unmark,
+            Keyword::Where,
             Keyword::Heap,
             Keyword::Refuse,
         ]
@@ -67,6 +89,17 @@ impl Keyword {
             Keyword::Free => "free",
             Keyword::Poke => "poke",
             Keyword::Peek => "peek",
+            Keyword::Call => "call",
+            Keyword::Line => "line",
+            Keyword::Return => "return",
+            Keyword::Start => "start",
+            Keyword::Stop => "stop",
+            Keyword::Clear => "clear",
+            Keyword::ResetPeak => "reset_peak",
+            Keyword::Traced => "traced",
+            Keyword::Mark => "mark",
+            Keyword::Unmark => "unmark",
+            Keyword::Where => "where",
             Keyword::Heap => "heap",
             Keyword::Refuse => "refuse",
         }
@@ -78,7 +111,7 @@ impl Keyword {
         ensures { result ≡ prints_more self }
     {
         match self {
-            Keyword::Heap => true,
+            Keyword::Heap | Keyword::Where => true,
             Keyword::Acquire
             | Keyword::Release
             | Keyword::Malloc
@@ -87,6 +120,16 @@ impl Keyword {
             | Keyword::Free
             | Keyword::Poke
             | Keyword::Peek
+            | Keyword::Call
+            | Keyword::Line
+            | Keyword::Return
+            | Keyword::Start
+            | Keyword::Stop
+            | Keyword::Clear
+            | Keyword::ResetPeak
+            | Keyword::Traced
+            | Keyword::Mark
+            | Keyword::Unmark
             | Keyword::Refuse => false,
         }
     }
@@ -104,20 +147,20 @@ impl Keyword {
             Op::Free(_, _) => Some(Keyword::Free),
             Op::Poke(_, _, _) => Some(Keyword::Poke),
             Op::Peek(_, _, _) => Some(Keyword::Peek),
+            Op::Enter(_, _) => Some(Keyword::Call),
+            Op::Line(_) => Some(Keyword::Line),
+            Op::Leave => Some(Keyword::Return),
+            Op::Start(_) => Some(Keyword::Start),
+            Op::Stop => Some(Keyword::Stop),
+            Op::Clear => Some(Keyword::Clear),
+            Op::ResetPeak => Some(Keyword::ResetPeak),
+            Op::Traced => Some(Keyword::Traced),
+            Op::Mark(_, _, _) => Some(Keyword::Mark),
+            Op::Unmark(_, _) => Some(Keyword::Unmark),
+            Op::Origin(_) => Some(Keyword::Where),
             Op::Heap => Some(Keyword::Heap),
             Op::Refuse(_, _) => Some(Keyword::Refuse),
-            Op::Enter(_, _)
-            | Op::Line(_)
-            | Op::Leave
-            | Op::Start(_)
-            | Op::Stop
-            | Op::Clear
-            | Op::ResetPeak
-            | Op::Traced
-            | Op::Mark(_, _, _)
-            | Op::Unmark(_, _)
-            | Op::Origin(_)
-            | Op::Snapshot(_)
+            Op::Snapshot(_)
             | Op::Keep(_, _, _)
             | Op::Stats(_, _, _, _)
             | Op::Compare(_, _, _, _, _)
@@ -151,7 +194,8 @@ pub fn name_of(op: &Op) -> Option<TextId>
         | Op::Realloc(_, name, _)
         | Op::Free(_, name)
         | Op::Poke(name, _, _)
-        | Op::Peek(name, _, _) => Some(*name),
+        | Op::Peek(name, _, _)
+        | Op::Origin(name) => Some(*name),
         Op::Acquire
         | Op::Release
         | Op::Heap
@@ -166,7 +210,43 @@ pub fn name_of(op: &Op) -> Option<TextId>
         | Op::Traced
         | Op::Mark(_, _, _)
         | Op::Unmark(_, _)
-        | Op::Origin(_)
+        | Op::Snapshot(_)
+        | Op::Keep(_, _, _)
+        | Op::Stats(_, _, _, _)
+        | Op::Compare(_, _, _, _, _)
+        | Op::Dump(_) => None,
+    }
+}
+
+/// The number of the text that an operation says, where it says one: the name of the block that it works
+/// on, or the file of a call.
+pub fn text_of(op: &Op) -> Option<TextId>
+    ensures text { (texts : List Name)
+        → option_map (text_at texts) result ≡ text_of (action_of texts op.now) }
+    ensures known { (texts : ℕ) → IsKnownAmong texts op.now → IfSome result (λ id. id.0 < texts) }
+{
+    match op {
+        Op::Enter(file, _) => Some(*file),
+        Op::Malloc(_, name, _)
+        | Op::Calloc(_, name, _, _)
+        | Op::Realloc(_, name, _)
+        | Op::Free(_, name)
+        | Op::Poke(name, _, _)
+        | Op::Peek(name, _, _)
+        | Op::Origin(name) => Some(*name),
+        Op::Acquire
+        | Op::Release
+        | Op::Heap
+        | Op::Refuse(_, _)
+        | Op::Line(_)
+        | Op::Leave
+        | Op::Start(_)
+        | Op::Stop
+        | Op::Clear
+        | Op::ResetPeak
+        | Op::Traced
+        | Op::Mark(_, _, _)
+        | Op::Unmark(_, _)
         | Op::Snapshot(_)
         | Op::Keep(_, _, _)
         | Op::Stats(_, _, _, _)
