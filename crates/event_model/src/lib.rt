@@ -37,7 +37,7 @@
 //! those before it.
 #![tactic(auto)]
 
-ghost use Rattle.event_model.specs.Laws.{OneMoreIsLegal, OneMoreState, OneMoreLeavesLess, LegalIsShort, FaultsChangeNothing, OthersBringNoFault, FaultIsLast, OtherNamesKeepTheirs, OnlyOkChangesBlocks, CallsGive, FreeTakes, OnlyAcquireWaits, OwnersGoOn, NoneReadyIsAllDone, TakesOne, OneMoreFollows, RunsAreStretches, LegalFollowsItsRuns, OneMoreIsPlanned, OneMoreHeeds, NullExactly, LegalIsSound, FewAreTaken};
+ghost use Rattle.event_model.specs.Laws.{OneMoreIsLegal, OneMoreState, OneMoreLeavesLess, LegalIsShort, FaultsChangeNothing, OthersBringNoFault, FaultIsLast, OtherNamesKeepTheirs, OnlyOkChangesBlocks, CallsGive, FreeTakes, OnlyAcquireWaits, OwnersGoOn, NoneReadyIsAllDone, TakesOne, OneMoreFollows, RunsAreStretches, LegalFollowsItsRuns, OneMoreIsPlanned, OneMoreHeeds, NullExactly, LegalIsSound, FewAreTaken, TracesAreOfBlocks};
 
 /// A legal history with one more entry that may come next is legal, leads to that entry's event, and
 /// leaves less to do.
@@ -116,4 +116,9 @@ pub fn legal_layouts_are_sound()
 /// No more arenas are granted and no more pools taken than there are events.
 pub fn few_are_taken()
     ensures { FewAreTaken }
+{}
+
+/// A trace under a block's name belongs to a live block of that name, and has as many bytes as its data.
+pub fn traces_belong_to_blocks()
+    ensures { TracesAreOfBlocks }
 {}
