@@ -15,7 +15,7 @@ use Rattle.mem_base.specs.declared.trace.Side.TheVariants as sides
 use Rattle.mem_base.specs.Offset.{IsOffset}
 use Rattle.trace_model.specs.declared.cause.TraceCause.{TraceCause}
 use Rattle.trace_model.specs.declared.cause.TraceCause.TheVariants.{BadNumber, BadRange, BadName}
-use Rattle.trace_model.specs.Operands.{◌>>=◌, is_between, is_name, letter_word, side_word, hex_word, glyph, digits_from, number_at, forward_at, backward_at, offset_at, number_in, name_at, letter_at, side_at, digit_of, with_byte, hex_from}
+use Rattle.trace_model.specs.Operands.{◌>>=◌, is_between, is_file, is_name, letter_word, side_word, hex_word, glyph, digits_from, number_at, forward_at, backward_at, offset_at, number_in, name_at, file_at, letter_at, side_at, digit_of, with_byte, hex_from}
 
 -- the value of a step that did not fail
 pub bind_ok : {A B : Type 0} (r : Result A TraceCause) (f : A → Result B TraceCause) (y : B) → (r >>= f) ≡ Ok y → (x : A) × (r ≡ Ok x) × (f x ≡ Ok y)
@@ -185,10 +185,13 @@ offset_again (pos n) lt =
 offset_again (negsuc n) lt =
     ap (λ (r : Result ℕ TraceCause). r >>= backward_at) (number_again (suc n) (omega (arith, lt))) ∙ ap (λ (b : Bool). cond b (Ok (negsuc n)) (Err BadRange)) (lt-ltb _ _ lt)
 
--- ---- names, letters and sides
+-- ---- names, files, letters and sides
 
 pub name_takes : (w : List ℕ) (u : Unit {0}) → name_at w ≡ Ok u → is_name w ≡ true
 name_takes w u e = (test_holds (is_name w) (Ok tt) BadName u e).0
+
+pub file_takes : (w : List ℕ) (u : Unit {0}) → file_at w ≡ Ok u → is_file w ≡ true
+file_takes w u e = (test_holds (is_file w) (Ok tt) BadName u e).0
 
 -- one of several texts
 pub one_of : {K : Type 0} (text : K → List ℕ) (w : List ℕ) (k : K) (rest : Result K TraceCause) (y : K) → cond (bytes_eq w (text k)) (Ok k) rest ≡ Ok y → (w ≡ text y) ⊎ (rest ≡ Ok y)

@@ -13,7 +13,7 @@ use Rattle.mem_base.specs.declared.trace.Side.TheVariants as sides
 use Rattle.mem_base.specs.Name.{Name}
 use Rattle.mem_base.specs.declared.limits.TheConstants.{MAX_PICKS}
 use Rattle.mem_base.specs.Offset.{IsOffset}
-use Rattle.trace_model.specs.Operands.{is_between, is_name, is_name_byte, letter_word, side_word, hex_word, glyph}
+use Rattle.trace_model.specs.Operands.{is_between, is_file, is_name, is_name_byte, letter_word, side_word, hex_word, glyph}
 use Rattle.trace_model.proofs.OperandLaws.{are_digits, own, both, low, high, between, whole}
 
 abbrev pub has_some : List ℕ → Bool
@@ -62,6 +62,12 @@ name_word name h =
     let t = both (is_between 1 32 (length name)) (list_all is_name_byte name) h in
     let l = both (nat_le 1 (length name)) (nat_le (length name) 32) t.0 in
     some_word name (leb-true 1 (length name) l.0) (all_imp is_name_byte (is_between 33 126) name_byte name t.1)
+
+pub file_word : (file : Name) → is_file file ≡ true → is_word file ≡ true
+file_word file h =
+    let t = both (is_between 1 255 (length file)) (list_all (is_between 33 126) file) h in
+    let l = both (nat_le 1 (length file)) (nat_le (length file) 255) t.0 in
+    some_word file (leb-true 1 (length file) l.0) t.1
 
 digits_all : (ds : List ℕ) → are_digits ds ≡ true → list_all (is_between 33 126) ds ≡ true
 digits_all [] h = refl

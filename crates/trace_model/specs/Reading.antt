@@ -25,6 +25,11 @@ head_at w =
     else if bytes_eq w (head_text heads.Pick) then Ok heads.Pick
     else keyword_among keywords w >>= λ k. Ok (heads.Op k)
 
+-- the one of these heads whose word this is
+abbrev pub head_among : List Head → List ℕ → Result Head TraceCause
+head_among [] w = Err UnknownWord
+head_among (h ∷ hs) w = if bytes_eq w (head_text h) then Ok h else head_among hs w
+
 -- an operation in front of the first track or behind a pick, or a track behind a pick
 abbrev pub is_misplaced : PlainTrace → Head → Bool
 is_misplaced t heads.Track = nat_lt 0 (length t.picks)
@@ -67,7 +72,7 @@ open_frames (t ∷ u ∷ ts) = open_frames (u ∷ ts)
 abbrev pub has_room : PlainTrace → Action → Bool
 has_room t a = nat_lt (action_count t.tracks) MAX_OPS && (not (is_report a) || nat_lt (report_count t.tracks) MAX_REPORTS)
 
--- the trace with one more operation of its last track, which has the frame that the operation speaks of, and not too many after it
+-- the trace with one more operation of its last track, where the frame that it speaks of is there, and then room
 abbrev pub add : PlainTrace → Action → Result PlainTrace TraceCause
 add t a =
     if not (has_frame (open_frames t.tracks) a) then Err NoFrame
