@@ -53,7 +53,7 @@ change_of other reply = keeps
 
 -- what is traced after an operation of a track with these frames that answered so
 abbrev pub tracing_after : List PlainFrame → Action → PlainReply → Option Tracing → Option Tracing
-tracing_after frames a reply tracing = after unknown_frame frames (change_of a reply) tracing
+tracing_after callers a reply tracing = after unknown_frame callers (change_of a reply) tracing
 
 -- ---- what is answered
 
