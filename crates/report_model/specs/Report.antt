@@ -209,8 +209,8 @@ arenas_line given back most =
 
 -- how many bytes are traced, and the most that were
 unfoldable pub traced_line : ℕ → ℕ → List ℕ
-traced_line traced peak =
-    codes "summary traced " ++ decimal traced ++ codes " peak " ++ decimal peak ++ line_end ∷ []
+traced_line current peak =
+    codes "summary traced " ++ decimal current ++ codes " peak " ++ decimal peak ++ line_end ∷ []
 
 -- the five lines of these numbers and this status
 abbrev pub summary_lines : List ℕ → Totals → ℕ → List ℕ
