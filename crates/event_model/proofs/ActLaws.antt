@@ -1,8 +1,10 @@
 -- What an operation leaves: all but what is traced is by its effect, and what is traced follows its reply.
-use Rattle.std.proofs.Common.{◌≡◌, ℕ, List, refl}
+use Rattle.std.proofs.Common.{◌≡◌, ℕ, refl}
 use Rattle.mem_base.specs.declared.history.Grant.{Grant}
 use Rattle.mem_base.specs.declared.history.Ask.{Ask}
-use Rattle.trace_model.specs.Plain.{Action, acquire, release, malloc, calloc, realloc, free, poke, peek, heap, refuse, enter, go_to, leave, start_tracing, stop_tracing, clear_traces, reset_peak, traced_memory, mark, unmark, origin, other}
+use Rattle.trace_model.specs.Plain.{Action, acquire, release, malloc, calloc, realloc, free, poke, peek, enter, go_to}
+use Rattle.trace_model.specs.Plain.{leave, start_tracing, stop_tracing, clear_traces, reset_peak, traced_memory, mark}
+use Rattle.trace_model.specs.Plain.{unmark, origin, heap, refuse, other}
 use Rattle.event_model.specs.Effects.{act, effect}
 use Rattle.event_model.specs.Frames.{frames_at}
 use Rattle.event_model.specs.State.{Held}
@@ -52,5 +54,6 @@ module _ (h : Held) (t : ℕ) where
     act_answers = refl
 
     -- what is traced follows the reply
-    pub act_traces : (act h t a arena raw).0.tracing ≡ tracing_after (frames_at (effect h t a arena raw).0.frames t) a (effect h t a arena raw).1 (effect h t a arena raw).0.tracing
+    pub act_traces : let r = effect h t a arena raw in
+        (act h t a arena raw).0.tracing ≡ tracing_after (frames_at r.0.frames t) a r.1 r.0.tracing
     act_traces = refl

@@ -5,7 +5,9 @@ use Rattle.mem_base.specs.Name.{Name}
 use Rattle.mem_base.specs.declared.history.Grant.{Grant}
 use Rattle.mem_base.specs.declared.history.Ask.{Ask}
 use Rattle.mem_base.specs.declared.history.Entry.{Entry}
-use Rattle.trace_model.specs.Plain.{Action, acquire, release, malloc, calloc, realloc, free, poke, peek, heap, refuse, enter, go_to, leave, start_tracing, stop_tracing, clear_traces, reset_peak, traced_memory, mark, unmark, origin, other, PlainTrack, name_of}
+use Rattle.trace_model.specs.Plain.{Action, acquire, release, malloc, calloc, realloc, free, poke, peek, enter, go_to}
+use Rattle.trace_model.specs.Plain.{leave, start_tracing, stop_tracing, clear_traces, reset_peak, traced_memory, mark}
+use Rattle.trace_model.specs.Plain.{unmark, origin, heap, refuse, other, PlainTrack, name_of}
 use Rattle.layout_model.specs.Asks.{Request, FitsRequest}
 use Rattle.layout_model.specs.Asks.Request.{FromPools}
 use Rattle.layout_model.specs.Layout.{Layout}
@@ -26,7 +28,8 @@ use Rattle.event_model.specs.Tracing.{trace_in}
 use Rattle.event_model.proofs.KeepLaws.{sized_keeps, free_keeps, poke_keeps, peek_keeps}
 use Rattle.event_model.proofs.LayoutLaws.{Placing, Unplacing, sized_holds, unless_holds, poke_holds, peek_holds}
 use Rattle.event_model.proofs.LeftLaws.{waits}
-use Rattle.event_model.proofs.NullLaws.{acquire_null, release_null, free_null, poke_null, peek_null, mark_null, trace_null, sized_why, sized_null}
+use Rattle.event_model.proofs.NullLaws.{acquire_null, release_null, free_null, poke_null, peek_null, mark_null}
+use Rattle.event_model.proofs.NullLaws.{trace_null, sized_why, sized_null}
 
 -- ---- calls for a block
 
@@ -147,7 +150,9 @@ event_holds P tracks s e here placed unplaced = by (next_action tracks s e.track
     by : (o : Option Action) → ((m : ℕ) → next_request s.held e.track o ≡ FromPools m → is_small m ≡ true → P (place s.held.layout (class_of m) e.arena).layout)
         → P (event_of tracks s e.track e.arena e.raw o).0.held.layout
     by None placed = here
-    by (Some a) placed = settle_holds P tracks e.track s (act s.held e.track a e.arena e.raw) here (effect_holds P s.held e.track a e.arena e.raw here placed unplaced)
+    by (Some a) placed =
+        let r = act s.held e.track a e.arena e.raw in
+        settle_holds P tracks e.track s r here (effect_holds P s.held e.track a e.arena e.raw here placed unplaced)
 
 -- ---- the reply of an event is that of its operation
 

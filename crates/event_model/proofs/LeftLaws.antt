@@ -88,8 +88,11 @@ next_less : (tracks : List PlainTrack) (s : State) (e : Entry) → length s.done
 unfolding event
 next_less tracks s e same next =
     let w = waits s.held.owner e.track (next_action tracks s e.track) next.ready in
-    let then_is : (event tracks s e).0 ≡ settle tracks e.track s (act s.held e.track w.0 e.arena e.raw) = ap (λ (o : Option Action). (event_of tracks s e.track e.arena e.raw o).0) w.1 in
-    subst (λ (x : State). left_in tracks x < left_in tracks s) (sym then_is) (less tracks s e.track w.0 (act s.held e.track w.0 e.arena e.raw) next.no_fault same w.1)
+    let r = act s.held e.track w.0 e.arena e.raw in
+    let then_is : (event tracks s e).0 ≡ settle tracks e.track s r =
+    ap (λ (o : Option Action). (event_of tracks s e.track e.arena e.raw o).0) w.1 in
+    subst (λ (x : State). left_in tracks x < left_in tracks s) (sym then_is)
+    (less tracks s e.track w.0 r next.no_fault same w.1)
 
 pub leaves_less : (tracks : List PlainTrack) (es : List Entry) (e : Entry) → IsNext tracks (last_state tracks es) e → left_in tracks (last_state tracks (es ++ e ∷ [])) < left_in tracks (last_state tracks es)
 leaves_less tracks es e next =

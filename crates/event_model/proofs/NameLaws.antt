@@ -36,7 +36,8 @@ pub others_keep_theirs : OtherNamesKeepTheirs
 unfolding event
 others_keep_theirs tracks s e a name is other =
     ap (λ (o : Option Action). find (event_of tracks s e.track e.arena e.raw o).0.held.blocks name) is
-    ∙ settle_keeps tracks e.track s (act s.held e.track a e.arena e.raw) name (effect_keeps_others s.held e.track a e.arena e.raw name other)
+    ∙ settle_keeps tracks e.track s (act s.held e.track a e.arena e.raw) name
+    (effect_keeps_others s.held e.track a e.arena e.raw name other)
 
 pub only_ok_changes : OnlyOkChangesBlocks
 unfolding event
@@ -44,7 +45,9 @@ only_ok_changes tracks s e name ne = by (next_action tracks s e.track) ne
   where
     by : (o : Option Action) → (event_of tracks s e.track e.arena e.raw o).1 ≢ ok → find (event_of tracks s e.track e.arena e.raw o).0.held.blocks name ≡ find s.held.blocks name
     by None ne = refl
-    by (Some a) ne = settle_keeps tracks e.track s (act s.held e.track a e.arena e.raw) name (effect_keeps_unless_ok s.held e.track a e.arena e.raw name ne)
+    by (Some a) ne =
+        let r = act s.held e.track a e.arena e.raw in
+        settle_keeps tracks e.track s r name (effect_keeps_unless_ok s.held e.track a e.arena e.raw name ne)
 
 -- ---- what a name holds where the answer is ok
 
@@ -90,7 +93,8 @@ change_gives call arena raw l block asks answer = by (stays_in_place block (need
         let room = room_for l (request_to_move call block) arena raw in
         move_gives call block room.home room.layout answer
 
-pub sized_gives : (call : SizedCall) (locked : Bool) (arena : Grant) (raw : Ask) (l : Layout) (now : Option Block) → (sized_turn call locked arena raw l now).answer ≡ ok
+pub sized_gives : (call : SizedCall) (locked : Bool) (arena : Grant) (raw : Ask) (l : Layout) (now : Option Block)
+    → (sized_turn call locked arena raw l now).answer ≡ ok
     → HoldsBody (given_body call now) (sized_turn call locked arena raw l now).block
 sized_gives call locked arena raw l None answer = decision_gives call arena raw l (came_to call locked None) answer
 sized_gives call locked arena raw l (Some block) answer = by call.goes_on answer
@@ -115,7 +119,8 @@ calls_give tracks s e a name call is named sized answer =
       held.2,
     )
 
-pub free_held : (o : Option Fault) (l : Layout) (now : Option Block) → (free_unless o l now).answer ≡ ok → (free_unless o l now).block ≡ None
+pub free_held : (o : Option Fault) (l : Layout) (now : Option Block)
+    → (free_unless o l now).answer ≡ ok → (free_unless o l now).block ≡ None
 free_held None l None answer = refl
 free_held None l (Some block) answer = refl
 free_held (Some found) l None answer = refl

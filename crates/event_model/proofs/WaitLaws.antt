@@ -64,7 +64,8 @@ event_goes_on tracks s e same goes = by (next_action tracks s e.track) refl
     by (Some a) is =
         let there = at_track (slice_get tracks e.track) (slice_index s.done e.track) a is in
         let within : e.track < length s.done = omega (arith, same, slice_get_within tracks e.track there.0 there.1) in
-        settle_goes_on tracks e.track s (act s.held e.track a e.arena e.raw) within goes (owner_after s.held e.track a e.arena e.raw)
+        let r = act s.held e.track a e.arena e.raw in
+        settle_goes_on tracks e.track s r within goes (owner_after s.held e.track a e.arena e.raw)
 
 -- ---- a history
 

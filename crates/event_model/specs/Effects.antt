@@ -1,6 +1,7 @@
 -- All that depends on which operation comes: what it does and answers, whether it may come now, what it asks
 -- the sources for, and which requests it wants to be refused. One more operation has one more arm in each.
--- What the operations of one family do to their own part of what is held stands in Memory, Lock, Frames, Tracing and Shape.
+-- What the operations of one family do to their own part of what is held stands in Memory, Lock, Frames, Tracing and
+-- Shape.
 use Rattle.std.specs.Prelude.{ℕ, ◌+◌, Bool, true, false, not, ◌&&◌, ◌||◌, ◌==◌, List, Option, Some, None, is_some}
 use Rattle.mem_base.specs.Name.{Name}
 use Rattle.mem_base.specs.declared.history.Grant.{Grant}
@@ -44,7 +45,8 @@ on_lock h f = let turn = f h.owner in (record h { owner = turn.0 }, turn.1)
 abbrev pub on_frames : Held → ℕ → (List PlainFrame → List PlainFrame) → Held × PlainReply
 on_frames h t f = (record h { frames = frames_then h.frames t f }, ok)
 
--- what an operation of track t does to all but what is traced, and what it answers, with these answers of the arena source and of the raw source
+-- what an operation of track t does to all but what is traced, and what it answers, with these answers of the arena
+-- source and of the raw source
 abbrev pub effect : Held → ℕ → Action → Grant → Ask → Held × PlainReply
 effect h t acquire arena raw = on_lock h (acquire_turn t)
 effect h t release arena raw = on_lock h (release_turn t)

@@ -1,7 +1,7 @@
 -- The frames of the tracks: what calls, lines and returns do to those of one track.
 use Rattle.std.specs.Prelude.{ℕ, List, [], slice_get, slice_set, unwrap_or}
 use Rattle.mem_base.specs.Name.{Name}
-use Rattle.frame_model.specs.Frames.{PlainFrame, frames_below, frames_on, frames_with}
+use Rattle.frame_model.specs.Frames.{PlainFrame, frames_on, frames_with}
 
 -- the frames of a track
 abbrev pub frames_at : List (List PlainFrame) → ℕ → List PlainFrame

@@ -1,11 +1,12 @@
--- What is traced: what an event means for it, by its operation, its reply and the frames of its track alone, and what the
--- operations that ask about it answer.
-use Rattle.std.specs.Prelude.{ℕ, if◌then◌else◌, List, Option, Some, None}
+-- What is traced: what an event means for it, by its operation, its reply and the frames of its track alone, and what
+-- the operations that ask about it answer.
+use Rattle.std.specs.Prelude.{if◌then◌else◌, List, Option, Some, None}
 use Rattle.mem_base.specs.Name.{Name}
 use Rattle.mem_base.specs.Texts.{unknown}
 use Rattle.frame_model.specs.Frames.{PlainFrame}
 use Rattle.tracing_model.specs.Traces.{Key, of_block, of_mark, TraceOf, trace_at}
-use Rattle.tracing_model.specs.Tracing.{Tracing, Change, gets, forgets, starts, stops, clears, resets, keeps, after, peak, traced_now}
+use Rattle.tracing_model.specs.Tracing.{Tracing, Change, gets, forgets, starts, stops, clears, resets, keeps, after}
+use Rattle.tracing_model.specs.Tracing.{peak, traced_now}
 use Rattle.trace_model.specs.Plain.{Action, acquire, release, malloc, calloc, realloc, free, poke, peek, enter, go_to, leave}
 use Rattle.trace_model.specs.Plain.{start_tracing, stop_tracing, clear_traces, reset_peak, traced_memory, mark, unmark, origin}
 use Rattle.trace_model.specs.Plain.{heap, refuse, other}

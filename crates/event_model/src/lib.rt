@@ -5,7 +5,7 @@
 //!
 //! | Part | Holds | Changes |
 //! |---|---|---|
-//! | `held` | the blocks by name, the layout of pools and arenas, the lock's owner, the tracks' frames, what is traced | by an operation |
+//! | `held` | blocks by name, layout of pools and arenas, the lock's owner, frames, what is traced | by an operation |
 //! | `done` | how many operations each track has done | after each event that is no fault |
 //! | `faulted` | whether a fault has come | with the first fault, which is the last event |
 //!
@@ -65,10 +65,13 @@
 //! those before it.
 #![tactic(auto)]
 
-ghost use Rattle.event_model.specs.Laws.{OneMoreIsLegal, OneMoreState, OneMoreLeavesLess, LegalIsShort, FaultsChangeNothing, OthersBringNoFault, FaultIsLast};
-ghost use Rattle.event_model.specs.Laws.{OtherNamesKeepTheirs, OnlyOkChangesBlocks, CallsGive, FreeTakes};
-ghost use Rattle.event_model.specs.Laws.{OnlyAcquireWaits, OwnersGoOn, NoneReadyIsAllDone, TakesOne, OneMoreFollows, RunsAreStretches, LegalFollowsItsRuns};
-ghost use Rattle.event_model.specs.Laws.{OneMoreIsPlanned, OneMoreHeeds, NullExactly, LegalIsSound, FewAreTaken, TracesAreOfBlocks};
+ghost use Rattle.event_model.specs.Laws.{OneMoreIsLegal, OneMoreState, OneMoreLeavesLess, LegalIsShort};
+ghost use Rattle.event_model.specs.Laws.{FaultsChangeNothing, OthersBringNoFault, FaultIsLast};
+ghost use Rattle.event_model.specs.Laws.{OtherNamesKeepTheirs, OnlyOkChangesBlocks, CallsGive};
+ghost use Rattle.event_model.specs.Laws.{FreeTakes, OnlyAcquireWaits, OwnersGoOn, NoneReadyIsAllDone};
+ghost use Rattle.event_model.specs.Laws.{TakesOne, OneMoreFollows, RunsAreStretches};
+ghost use Rattle.event_model.specs.Laws.{LegalFollowsItsRuns, OneMoreIsPlanned, OneMoreHeeds};
+ghost use Rattle.event_model.specs.Laws.{NullExactly, LegalIsSound, FewAreTaken, TracesAreOfBlocks};
 
 /// A legal history with one more entry that may come next is legal, leads to that entry's event, and
 /// leaves less to do.

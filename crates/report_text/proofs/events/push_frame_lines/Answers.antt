@@ -11,6 +11,7 @@ pub returns-clause-ok : goal.returns-clause-ok
 returns-clause-ok c =
     let old = c.args.text.now.items in
     let line : Frame → List ℕ = λ f. frame_line (frame_of c.args.texts.now f) in
+    let kept = c.args.kept.now in
     c.loop-frame.invariant
-    ∙ ap (λ (fs : List Frame). old ++ flat_map line fs) (take_all c.loop-frame.frame-index c.args.kept.now c.loop-frame-test.false)
-    ∙ ap (λ (l : List ℕ). old ++ l) (sym (flat_map-map frame_line (frame_of c.args.texts.now) c.args.kept.now))
+    ∙ ap (λ (fs : List Frame). old ++ flat_map line fs) (take_all c.loop-frame.frame-index kept c.loop-frame-test.false)
+    ∙ ap (λ (l : List ℕ). old ++ l) (sym (flat_map-map frame_line (frame_of c.args.texts.now) kept))

@@ -65,20 +65,25 @@ returns-clause-known c =
     let four : length c.intern-3.new.self ≡ 4 = ap length all in
     let t = c.in_ok-t.t in
     let x = c.in_ok-x.x in
-    let of_t : t.0 < length c.intern.new.self = slice_get_within c.intern.new.self t.0 (codes "t") c.in_ok-t.ensures.number in
-    let of_x : x.0 < length c.intern-2.new.self = slice_get_within c.intern-2.new.self x.0 (codes "x") c.in_ok-x.ensures.number in
-    let one : c.push.new.self ≡ Heap ∷ [] = c.in_ok-push.ensures.ok ∙ ap (λ (l : List Op). l ++ Heap ∷ []) c.new-ops.ensures in
-    let twice : c.push-2.new.self ≡ Heap ∷ Free Mem x ∷ [] = c.in_ok-push-2.ensures.ok ∙ ap (λ (l : List Op). l ++ Free Mem x ∷ []) one in
+    let of_t : t.0 < length c.intern.new.self =
+    slice_get_within c.intern.new.self t.0 (codes "t") c.in_ok-t.ensures.number in
+    let of_x : x.0 < length c.intern-2.new.self =
+    slice_get_within c.intern-2.new.self x.0 (codes "x") c.in_ok-x.ensures.number in
+    let with_op : Op → List Op → List Op = λ (op : Op) (l : List Op). l ++ op ∷ [] in
+    let one : c.push.new.self ≡ Heap ∷ [] = c.in_ok-push.ensures.ok ∙ ap (with_op Heap) c.new-ops.ensures in
+    let twice : c.push-2.new.self ≡ Heap ∷ Free Mem x ∷ [] =
+    c.in_ok-push-2.ensures.ok ∙ ap (with_op (Free Mem x)) one in
     let thrice : c.push-3.new.self ≡ Heap ∷ Free Mem x ∷ Mark 7 4096 20 ∷ [] =
-    c.in_ok-push-3.ensures.ok ∙ ap (λ (l : List Op). l ++ Mark 7 4096 20 ∷ []) twice in
+    c.in_ok-push-3.ensures.ok ∙ ap (with_op (Mark 7 4096 20)) twice in
     let more : c.push-4.new.self ≡ Heap ∷ Free Mem x ∷ Mark 7 4096 20 ∷ Traced ∷ [] =
-    c.in_ok-push-4.ensures.ok ∙ ap (λ (l : List Op). l ++ Traced ∷ []) thrice in
-    let ops : c.push-5.new.self ≡ ops_on x = c.in_ok-push-5.ensures.ok ∙ ap (λ (l : List Op). l ++ Origin x ∷ []) more in
-    let with_ops : List Op → Track = λ (l : List Op). record { name = t; ops = l } in
-    trace_is_known _ t x (c.in_ok-push-6.ensures.ok ∙ (λ i. c.new-tracks.ensures i ++ with_ops (ops i) ∷ [])) (omega arith) (omega arith)
+    c.in_ok-push-4.ensures.ok ∙ ap (with_op Traced) thrice in
+    let ops : c.push-5.new.self ≡ ops_on x = c.in_ok-push-5.ensures.ok ∙ ap (with_op (Origin x)) more in
+    let track : List Op → Track = λ (l : List Op). record { name = t; ops = l } in
+    let tracks = c.in_ok-push-6.ensures.ok ∙ (λ i. c.new-tracks.ensures i ++ track (ops i) ∷ []) in
+    trace_is_known _ t x tracks (omega arith) (omega arith)
 
 pub returns-clause-texts : goal.returns-clause-texts
 returns-clause-texts c =
-    let texts = c.in_ok-texts.ensures in
-    ap length (c.in_ok-intern.ensures.table ∙ ap (λ ts. with_text ts (codes "f.py"))
-    (c.in_ok-x.ensures.table ∙ ap (λ ts. with_text ts (codes "x")) (c.in_ok-t.ensures.table ∙ ap (λ ts. with_text ts (codes "t")) texts)))
+    let first = c.in_ok-t.ensures.table ∙ ap (λ ts. with_text ts (codes "t")) c.in_ok-texts.ensures in
+    let both = c.in_ok-x.ensures.table ∙ ap (λ ts. with_text ts (codes "x")) first in
+    ap length (c.in_ok-intern.ensures.table ∙ ap (λ ts. with_text ts (codes "f.py")) both)
