@@ -6,6 +6,7 @@ use Rattle.mem_base.specs.Name.{Name}
 use Rattle.mem_base.specs.Texts.{IsTable}
 use Rattle.mem_base.specs.declared.history.Ask.{Ask}
 use Rattle.mem_base.specs.declared.history.Grant.{Grant}
+use Rattle.mem_base.specs.declared.reply.Fault.{Fault}
 use Rattle.mem_base.specs.declared.reply.Frame.{Frame}
 use Rattle.mem_base.specs.declared.reply.Reply.{Reply}
 use Rattle.mem_base.specs.declared.reply.Reply.TheVariants as replies
@@ -24,7 +25,7 @@ use Rattle.event_model.specs.Blocks.{Block}
 use Rattle.event_model.specs.Effects.{act, effect, follow}
 use Rattle.event_model.specs.Frames.{frames_at}
 use Rattle.event_model.specs.Memory.{SizedCall, Turn, calloc_call, came_to, change_turn, finding_of, malloc_call, new_block_turn, realloc_call, sized_turn, turn_to}
-use Rattle.event_model.specs.Replies.{PlainReply, IsKnownReply, ok, null, busy, absent, outside, held, not_held, not_tracing, untraced, traced, frames, bytes, shape, fault, unsaid, frames_of, is_fault, is_ok, plain_reply}
+use Rattle.event_model.specs.Replies.{PlainReply, IsKnownReply, ok, null, busy, absent, outside, held, not_held, not_tracing, untraced, traced, frames, bytes, shape, fault, unsaid, frame_of, frames_of, is_fault, is_ok, plain_reply}
 use Rattle.event_model.specs.State.{Held, is_owner}
 use Rattle.event_model.specs.Tracing.{change_of, tracing_after, unknown_frame, where_ok}
 use Rattle.domain_api.specs.declared.answers.Asked.{Asked}
@@ -84,12 +85,12 @@ module _ (texts : List Name) (h : Held) (t : ℕ) (op : Op) (asked : Asked) (mid
   pub follows : (is_fault left.1 ≡ true → new.tracing ≡ mid.tracing)
       → ((g : Held) → StandsFor texts mid g → TracesStand texts mid.callers.table new.tracing (tracing_after (frames_at g.frames t) (action_of texts op) left.1 g.tracing))
       → Done texts h t op asked new reply
-  follows at_fault traced = record { held = by (is_fault left.1) refl e.held; answer = e.answer; fits = e.fits }
+  follows at_fault then_traced = record { held = by (is_fault left.1) refl e.held; answer = e.answer; fits = e.fits }
     where
       by : (b : Bool) → is_fault left.1 ≡ b → StandsFor texts mid (cond b h left.0) → StandsFor texts new (cond b h (follow t (action_of texts op) left).0)
       by true fell stands =
           with_traces h h.tracing stands (subst (λ (v : TracingView). TracesStand texts mid.callers.table v h.tracing) (sym (at_fault fell)) stands.traces)
-      by false sound stands = with_traces left.0 (tracing_after (frames_at left.0.frames t) (action_of texts op) left.1 left.0.tracing) stands (traced left.0 stands)
+      by false sound stands = with_traces left.0 (tracing_after (frames_at left.0.frames t) (action_of texts op) left.1 left.0.tracing) stands (then_traced left.0 stands)
 
 -- what is traced goes on
 goes_on : (texts : List Name) (table : List (List Frame)) (now : TracingView) (fs : List PlainFrame) (t : Option Tracing) (change : Change) → change ≡ keeps → TracesStand texts table now t
@@ -109,18 +110,18 @@ kept t op old new asked reply keep affects = λ texts h table stands.
 -- ---- an operation that may ask a source
 
 -- no call for more bytes than a block may have answers ok
-new_small : (call : SizedCall) (fault : _) (arena : Grant) (raw : Ask) (l : Layout) (d : Decision) → Decides call.size fault d → is_ok (new_block_turn call arena raw l d).answer ≡ true → call.size ≤ max_size
-new_small call fault arena raw l too_great (over_all great) is = absurd (true≢false (sym is))
-new_small call fault arena raw l too_great (over_data great none) is = absurd (true≢false (sym is))
-new_small call fault arena raw l (faults _) (faulty which small some) is = small
-new_small call fault arena raw l asks (within small none) is = omega (arith, small)
+new_small : (call : SizedCall) (fell : Option Fault) (arena : Grant) (raw : Ask) (l : Layout) (d : Decision) → Decides call.size fell d → is_ok (new_block_turn call arena raw l d).answer ≡ true → call.size ≤ max_size
+new_small call fell arena raw l too_great (over_all great) is = absurd (true≢false (sym is))
+new_small call fell arena raw l too_great (over_data great none) is = absurd (true≢false (sym is))
+new_small call fell arena raw l (faults _) (faulty which small some) is = small
+new_small call fell arena raw l asks (within small none) is = omega (arith, small)
 
-change_small : (call : SizedCall) (fault : _) (arena : Grant) (raw : Ask) (l : Layout) (block : Block) (d : Decision) → Decides call.size fault d
+change_small : (call : SizedCall) (fell : Option Fault) (arena : Grant) (raw : Ask) (l : Layout) (block : Block) (d : Decision) → Decides call.size fell d
     → is_ok (change_turn call arena raw l block d).answer ≡ true → call.size ≤ max_size
-change_small call fault arena raw l block too_great (over_all great) is = absurd (true≢false (sym is))
-change_small call fault arena raw l block too_great (over_data great none) is = absurd (true≢false (sym is))
-change_small call fault arena raw l block (faults _) (faulty which small some) is = small
-change_small call fault arena raw l block asks (within small none) is = omega (arith, small)
+change_small call fell arena raw l block too_great (over_all great) is = absurd (true≢false (sym is))
+change_small call fell arena raw l block too_great (over_data great none) is = absurd (true≢false (sym is))
+change_small call fell arena raw l block (faults _) (faulty which small some) is = small
+change_small call fell arena raw l block asks (within small none) is = omega (arith, small)
 
 sized_small : (call : SizedCall) (locked : Bool) (arena : Grant) (raw : Ask) (l : Layout) (now : Option Block) → is_ok (sized_turn call locked arena raw l now).answer ≡ true → call.size ≤ max_size
 sized_small call locked arena raw l None is =
@@ -134,7 +135,8 @@ sized_small call locked arena raw l (Some block) is = by call.goes_on is
     by true is = change_small call _ arena raw l block d (decides call.letter call.size locked (finding_of call.letter (Some block))) is
     by false is = absurd (true≢false (sym is))
 
-gets_size : Change → ℕ
+-- how many bytes a key gets
+abbrev pub gets_size : Change → ℕ
 gets_size (gets key size) = size
 gets_size (forgets key) = 0
 gets_size (starts limit) = 0
@@ -155,7 +157,7 @@ small_where_ok texts h t (ops.Calloc letter name count size) asked asking is =
 small_where_ok texts h t (ops.Realloc letter name size) asked asking is =
     sized_small (realloc_call letter size) (is_owner h.owner t) asked.arena asked.raw h.layout (find h.blocks (text_at texts name)) is
 small_where_ok texts h t (ops.Free letter name) asked asking is = omega arith
-small_where_ok texts h t (ops.Poke name offset bytes) asked asking is = absurd (true≢false asking)
+small_where_ok texts h t (ops.Poke name offset written) asked asking is = absurd (true≢false asking)
 small_where_ok texts h t (ops.Peek name offset count) asked asking is = absurd (true≢false asking)
 small_where_ok texts h t (ops.Enter file line) asked asking is = absurd (true≢false asking)
 small_where_ok texts h t (ops.Line line) asked asking is = absurd (true≢false asking)
@@ -184,7 +186,7 @@ only_ok texts (ops.Malloc letter name size) r asking = refl
 only_ok texts (ops.Calloc letter name count size) r asking = refl
 only_ok texts (ops.Realloc letter name size) r asking = refl
 only_ok texts (ops.Free letter name) r asking = refl
-only_ok texts (ops.Poke name offset bytes) r asking = absurd (true≢false asking)
+only_ok texts (ops.Poke name offset written) r asking = absurd (true≢false asking)
 only_ok texts (ops.Peek name offset count) r asking = absurd (true≢false asking)
 only_ok texts (ops.Enter file line) r asking = absurd (true≢false asking)
 only_ok texts (ops.Line line) r asking = absurd (true≢false asking)
@@ -263,15 +265,15 @@ not_made p old new true is made = absurd (true≢false is)
 not_made p old new false is made = made
 
 -- an operation that may ask a source was prepared, did what it does, and was traced
-pub traced_acts : (t : ℕ) (op : Op) (old mid now new : Holding) (asked : Asked) (reply : Reply) (p : Prepared) → is_quiet op ≡ false → IsAsItWas old mid → IsPrepared t op mid p → Affects t op mid now asked reply
+pub asked_acts : (t : ℕ) (op : Op) (old mid now new : Holding) (asked : Asked) (reply : Reply) (p : Prepared) → is_quiet op ≡ false → IsAsItWas old mid → IsPrepared t op mid p → Affects t op mid now asked reply
     → now ≡ record mid { store = now.store } → Makes p reply now.tracing new.tracing → new ≡ record now { tracing = new.tracing } → Acts t op old new asked reply
-traced_acts t op old mid now new asked reply p asking same ready affects others makes traced = λ texts h names stands.
+asked_acts t op old mid now new asked reply p asking same ready affects others makes rest = λ texts h names stands.
     let before = as_it_was_stands texts old mid h same stands in
     let e = affects texts h names before in
     let a = action_of texts op in
     let r = effect h t a asked.arena asked.raw in
     let made : MakesWhere (is_ok r.1) p now.tracing new.tracing = subst (λ (x : PlainReply). MakesWhere (is_ok x) p now.tracing new.tracing) e.answer (makes texts) in
-    follows texts h t op asked now new reply e traced
+    follows texts h t op asked now new reply e rest
     (λ fell. not_made p now.tracing new.tracing (is_ok r.1) (fault_not_ok r.1 fell) made)
     (λ g there. by_ok texts h names g e.answer before there made (is_ok r.1) refl)
   where
@@ -322,9 +324,8 @@ textless texts (replies.Frames (f ∷ fs) total) r same = absurd (differ (same [
 
     differ : plain_reply [] (replies.Frames (f ∷ fs) total) ≡ plain_reply many (replies.Frames (f ∷ fs) total) → ⊥
     differ e =
-        let first : text_at [] f.file ≡ text_at many f.file = cc in
-        let empty : [] ≡ 0 ∷ [] = first ∙ read f.file.0 in
-        absurd cc
+        let first : frame_of [] f ≡ frame_of many f = cc in
+        absurd (omega (arith, ap (λ (p : PlainFrame). length p.file) first, ap (λ (name : Name). length name) (read f.file.0)))
 textless texts (replies.Groups count groups) r same = tt
 textless texts (replies.Diffs count diffs) r same = tt
 textless texts (replies.Dumped text) r same = tt

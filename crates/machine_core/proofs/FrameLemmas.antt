@@ -53,9 +53,12 @@ pub line_named : (texts : List Name) (line : ℕ) (fs : List Frame) → frames_o
 line_named texts line fs =
     map-append (frame_of texts) (frames_below fs) (map (at_line line) (latest 1 fs))
     ∙ (λ i. below_named texts fs i ++ moved (latest 1 fs) i)
-    ∙ ap (λ (l : List PlainFrame). frames_below (frames_of texts fs) ++ map (λ f. record f { line = line }) l) last
+    ∙ ap (λ (l : List PlainFrame). frames_below (frames_of texts fs) ++ map on l) last
   where
-    moved : (l : List Frame) → frames_of texts (map (at_line line) l) ≡ map (λ f. record f { line = line }) (frames_of texts l)
+    on : PlainFrame → PlainFrame
+    on f = record f { line = line }
+
+    moved : (l : List Frame) → frames_of texts (map (at_line line) l) ≡ map on (frames_of texts l)
     moved [] = refl
     moved (f ∷ l) = ap (λ (r : List PlainFrame). record { file = text_at texts f.file; line = line } ∷ r) (moved l)
 

@@ -21,7 +21,7 @@ count_is (b ∷ bs) = omega (arith, count_is bs, sum_by-cons (λ (x : Name × Bl
 
 pub totals_are : (trace : Trace) (es : List Entry) (now : Holding) (progress : Progress) (faulted : Bool) → Stands trace es now progress faulted
     → (events : ℕ) → events ≡ length es → (blocks bytes : ℕ) → blocks ≡ sum_by live_in now.store.blocks → bytes ≡ sum_by size_in now.store.blocks → (c : Counts) → c ≡ counts_in now.store
-    → (traced most : ℕ) → (traced, most) ≡ (traced_bytes now.tracing.traces, now.tracing.peak)
+    → (traced most : ℕ) → (◌≡◌ {A = ℕ × ℕ} (traced, most) (traced_bytes now.tracing.traces, now.tracing.peak))
     → record { events = events; owner = now.owner; blocks = blocks; bytes = bytes; counts = c; traced = traced; peak = most } ≡ totals_of (plain trace).tracks es
 totals_are trace es now progress faulted stands events many blocks bytes live sized c counted traced most said =
     let h = (last_state (plain trace).tracks es).held in
@@ -39,5 +39,5 @@ totals_are trace es now progress faulted stands events many blocks bytes live si
         pooled = sym (stands.held.blocks.sums pooled_in refl) j;
       })) i;
       traced = (ap (λ (p : ℕ × ℕ). p.0) said ∙ stands.held.traces.bytes) i;
-      peak = (ap (λ (p : ℕ × ℕ). p.1) said ∙ stands.held.traces.peak) i;
+      peak = (ap (λ (p : ℕ × ℕ). p.1) said ∙ stands.held.traces.most) i;
     }

@@ -75,7 +75,7 @@ traces_stay texts old new before later t keep same stands = record {
         numbered = subst (IsNumbered new) (sym (same.each key)) (numbered_stays old new keep (stored_at before.traces key) one.numbered);
       };
   bytes = same.bytes ∙ stands.bytes;
-  peak = same.peak ∙ stands.peak;
+  most = same.peak ∙ stands.most;
   below = stands.below;
   distinct = stands.distinct;
 }
@@ -120,7 +120,7 @@ module _ (texts : List Name) (table : List (List Frame)) (old new : TracingView)
         limit = change.limit ∙ stands.limit ∙ sym limit;
         each = each_then;
         bytes = bytes;
-        peak = omega (arith, change.peak, stands.peak, bytes, most);
+        most = omega (arith, change.peak, stands.most, bytes, most);
         below = omega (arith, most);
         distinct = apart;
       }
@@ -178,7 +178,7 @@ module _ (texts : List Name) (table : List (List Frame)) (frames : List PlainFra
         limit = stands.limit;
         each = λ key known. let one = stands.each key known in record { named = one.named; numbered = one.numbered };
         bytes = stands.bytes;
-        peak = omega (arith, stands.peak, stands.below, most);
+        most = omega (arith, stands.most, stands.below, most);
         below = omega (arith, most);
         distinct = stands.distinct;
       }
@@ -196,7 +196,7 @@ module _ (texts : List Name) (table : List (List Frame)) (frames : List PlainFra
     limit = limit;
     each = λ key known. none_each now.traces t empty none key;
     bytes = ap traced_bytes empty ∙ sym sum;
-    peak = nothing ∙ sym most;
+    most = nothing ∙ sym most;
     below = omega (arith, sum);
     distinct = distinct;
   }
@@ -231,7 +231,7 @@ module _ (texts : List Name) (table : List (List Frame)) (frames : List PlainFra
         limit = stands.limit;
         each = stands.each;
         bytes = stands.bytes;
-        peak = stands.bytes;
+        most = stands.bytes;
         below = stands.below;
         distinct = tt;
       })
@@ -240,7 +240,7 @@ module _ (texts : List Name) (table : List (List Frame)) (frames : List PlainFra
         limit = stands.limit;
         each = λ key known. let one = stands.each key known in record { named = one.named; numbered = one.numbered };
         bytes = stands.bytes;
-        peak = omega (arith, stands.bytes);
+        most = omega (arith, stands.bytes);
         below = omega arith;
         distinct = stands.distinct;
       })

@@ -143,12 +143,12 @@ module _ (t : ℕ) (op : Op) (old new : Holding) (others : new ≡ record old { 
 -- ---- what is asked about it
 
 -- the bytes that are traced, and the peak
-pub traced_acts : (t : ℕ) (op : Op) (old : Holding) (current most : ℕ) → op ≡ ops.Traced → (current, most) ≡ (traced_bytes old.tracing.traces, old.tracing.peak)
+pub traced_acts : (t : ℕ) (op : Op) (old : Holding) (current most : ℕ) → op ≡ ops.Traced → (◌≡◌ {A = ℕ × ℕ} (current, most) (traced_bytes old.tracing.traces, old.tracing.peak))
     → Acts t op old old not_asked (replies.Traced current most)
 traced_acts t op old current most is said =
     subst (λ (o : Op). Acts t o old old not_asked (replies.Traced current most)) (sym is) (kept t ops.Traced old old not_asked (replies.Traced current most) (λ texts r. refl) (λ texts h names stands.
     let now : current ≡ traced_now h.tracing = ap (λ (p : ℕ × ℕ). p.0) said ∙ stands.traces.bytes in
-    let then_most : most ≡ peak h.tracing = ap (λ (p : ℕ × ℕ). p.1) said ∙ stands.traces.peak in
+    let then_most : most ≡ peak h.tracing = ap (λ (p : ℕ × ℕ). p.1) said ∙ stands.traces.most in
     record { held = stands; answer = λ i. traced (now i) (then_most i); fits = nothing_asked h.layout }))
 
 -- the reply for the trace of a block, by number and by name

@@ -58,7 +58,7 @@ pub record TracesStand (texts : List Name) (table : List (List Frame)) (now : Tr
   pub limit : now.limit ≡ option_map (λ x. x.limit) t
   pub each : (key : TraceKey) → IsKnownKey (length texts) key → KeyStands texts table now.traces t key
   pub bytes : traced_bytes now.traces ≡ traced_now t
-  pub peak : now.peak ≡ peak t
+  pub most : now.peak ≡ peak t
   pub below : traced_now t ≤ peak t
   pub distinct : IfSome t (λ x. AreDistinct x.traces)
 
