@@ -1,6 +1,6 @@
 -- What the operations on frames and of tracing do.
-use Rattle.std.proofs.Common.{◌≡◌, ℕ, ◌<◌, Bool, true, false, cond, List, [], length, map, Option, Some, None, refl, sym, ap, subst, ◌∙◌, arith, true≢false}
-use Rattle.std.specs.Prelude.{IfNone, IfSome}
+use Rattle.std.proofs.Common.{◌≡◌, ℕ, ◌<◌, Bool, true, false, cond, List, [], length, map, slice_get, Option, Some, None, refl, sym, ap, subst, ◌∙◌, arith, true≢false}
+use Rattle.std.specs.Prelude.{IfNone, IfSome, unwrap_or}
 use Rattle.std.specs.Option.{option_map}
 use Rattle.std.proofs.lemmas.Option.{slice_get_within}
 use Rattle.mem_base.specs.Name.{Name}
@@ -169,12 +169,26 @@ origin_acts t name old reply known says =
     left_there h None = refl
     left_there h (Some x) = refl
 
+-- a block has a trace, or none
+pub origin_says : (texts : List Name) (table : List (List Frame)) (o : Option Stored) (of : Stored) (kept : List Frame) → Some of ≡ o → slice_get table of.trace.0 ≡ Some kept
+    → plain_reply texts (replies.Frames kept of.total) ≡ trace_answer (option_map (trace_of texts table) o)
+origin_says texts table o of kept is at =
+    ap (λ (l : List Frame). plain_reply texts (replies.Frames l of.total)) (sym (ap (λ (x : Option (List Frame)). unwrap_or x []) at))
+    ∙ ap (λ (x : Option Stored). trace_answer (option_map (trace_of texts table) x)) is
+
+pub origin_says_none : (texts : List Name) (table : List (List Frame)) (o : Option Stored) → None ≡ o → plain_reply texts replies.Untraced ≡ trace_answer (option_map (trace_of texts table) o)
+origin_says_none texts table o is = ap (λ (x : Option Stored). trace_answer (option_map (trace_of texts table) x)) is
+
 -- ---- marks
 
 -- whether numbers are marked
 mark_tells : (tracing : Option Tracing) (limit : ℕ) → option_map (λ (x : Tracing). x.limit) tracing ≡ Some limit → mark_answer tracing ≡ ok
 mark_tells None limit is = absurd cc
 mark_tells (Some x) limit is = refl
+
+mark_tells_some : (tracing : Option Tracing) → (option_map (λ (x : Tracing). x.limit) tracing ≡ None → ⊥) → mark_answer tracing ≡ ok
+mark_tells_some None some = absurd (some refl)
+mark_tells_some (Some x) some = refl
 
 mark_tells_none : (tracing : Option Tracing) → option_map (λ (x : Tracing). x.limit) tracing ≡ None → mark_answer tracing ≡ not_tracing
 mark_tells_none None is = refl
@@ -199,11 +213,11 @@ module _ (t : ℕ) (old mid new : Holding) (domain number : ℕ) (same : IsAsItW
       (λ texts g names there. idle_stands texts mid.callers.table mid.tracing (frames_at g.frames t) (of_mark domain number) size g.tracing there.traces none))
 
   -- a number loses its trace
-  pub unmark_acts : (limit : ℕ) → mid.tracing.limit ≡ Some limit → new ≡ record mid { tracing = new.tracing } → ChangesOne (keys.Number domain number) None mid.tracing new.tracing
+  pub unmark_acts : (mid.tracing.limit ≡ None → ⊥) → new ≡ record mid { tracing = new.tracing } → ChangesOne (keys.Number domain number) None mid.tracing new.tracing
       → Acts t (ops.Unmark domain number) old new not_asked replies.Ok
-  unmark_acts limit limited others change =
+  unmark_acts tracing others change =
       traces_act t (ops.Unmark domain number) old mid new replies.Ok same others (ops.Unmark domain number) (λ texts. refl) (λ texts h. refl)
-      (λ texts h stands. ap (λ (r : PlainReply). (h, r)) (mark_tells h.tracing limit (sym stands.traces.limit ∙ limited)))
+      (λ texts h stands. ap (λ (r : PlainReply). (h, r)) (mark_tells_some h.tracing (λ none. tracing (stands.traces.limit ∙ none))))
       (λ texts g names there. forgets_stand texts mid.callers.table mid.tracing new.tracing (keys.Number domain number) (frames_at g.frames t) names.distinct tt g.tracing there.traces change)
 
   pub unmark_idle : mid.tracing.limit ≡ None → new ≡ mid → Acts t (ops.Unmark domain number) old new not_asked replies.NotTracing

@@ -27,7 +27,8 @@ returns-in-Some-clause-asks_raw g c =
     subst (λ (a : Answer). Asks c.args.op.now sides.Raw (raw_asks a.asked.raw) (raw_refusals a.asked.raw) old new seen seen) (sym c.unasked.ensures)
     (quiet_asks c.args.op.now sides.Raw old new seen quiet c.requires.held.raws_out c.quiet.ensures.same.raws)
 
-pub returns-in-None-clause-acts : goal.returns-in-None-clause-acts
-returns-in-None-clause-acts g c =
-    let same : c.quiet.new.self ≡ c.args.self.now = subst (λ (o : Option Reply). IfNone o (c.quiet.new.self ≡ c.args.self.now)) c.in-None.is c.in_ok-reply.ensures.others in
-    subst (λ (old : Holding). IfOk c.asking.result (λ a. Acts c.args.t c.args.op.now old c.asking.new.self a.asked a.reply)) same c.asking.ensures.acts
+pub returns-in_ok-answer-in-None-clause-acts : goal.returns-in_ok-answer-in-None-clause-acts
+returns-in_ok-answer-in-None-clause-acts g c = ?
+
+pub returns-in_ok-answer-in-None-clause-known : goal.returns-in_ok-answer-in-None-clause-known
+returns-in_ok-answer-in-None-clause-known g c = ?
