@@ -194,6 +194,7 @@ impl Held {
         requires ask { CanAsk self.old.store (A.seen arenas.old) (R.seen raws.old) }
         requires held { AreHeld self.old.store (A.seen arenas.old) (R.seen raws.old) }
         ensures affects { IfOk result (λ a. Affects t op.now self.old self.new a.asked a.reply) }
+        ensures known { IfOk result (λ a. IsKnownReply (length self.old.store.blocks) a.reply) }
         ensures asks_arena { IfOk result (λ a.
             AsksArenas op.now a.asked self.old self.new (A.seen arenas.old) (A.seen arenas.new)) }
         ensures asks_raw { IfOk result (λ a.

@@ -5,7 +5,10 @@ use Rattle.trace_model.specs.Plain.{IsKnownAmong}
 use Rattle.event_model.specs.Memory.{calloc_call, malloc_call, realloc_call}
 use Rattle.event_model.specs.State.{is_owner}
 use Rattle.block_store.specs.declared.answer.Answer.{Answer}
+use Rattle.event_model.specs.Replies.{IsKnownReply}
+use Rattle.block_store.specs.Store.{sized_by}
 use Rattle.machine_core.specs.Acts.{Affects, Asks}
+use Rattle.machine_core.proofs.FollowLemmas.{sized_known, textless}
 use Rattle.machine_core.specs.declared.held.Held.{Held as Holding}
 use Rattle.machine_core.proofs.ActLemmas.{held_told, nothing_fails, nothing_fails_unrefused, on_err, told_asks}
 use Rattle.machine_core.proofs.HeldLemmas.{IsCallFor, call_is, free_affects, is_calloc, is_malloc, is_realloc, sized_does}
@@ -45,6 +48,26 @@ returns-in-Free-clause-affects g c =
     let known : c.in-Free.name.0 < length old.store.blocks = subst (IsKnownAmong (length old.store.blocks)) c.in-Free.is c.requires.known in
     subst (λ (a : Answer). Affects c.args.t c.args.op.now old new a.asked a.reply) (sym c.unasked.ensures)
     (free_affects c.args.t c.args.op.now old new c.free-reply.result refl c.in-Free.letter c.in-Free.name c.call-call-in-Free.result c.in-Free.is c.call-call-in-Free.ensures known c.free-reply.ensures.turn)
+
+pub returns-in-Malloc-clause-known : goal.returns-in-Malloc-clause-known
+returns-in-Malloc-clause-known g c =
+    let call = c.call-call.result in
+    sized_known (length c.args.self.now.store.blocks) c.malloc.result c.in-Malloc.name.0 (sized_by (malloc_call call.letter c.in-Malloc.size) call.locked) c.args.self.now.store c.malloc.new.self c.malloc.ensures.turn
+
+pub returns-in-Calloc-clause-known : goal.returns-in-Calloc-clause-known
+returns-in-Calloc-clause-known g c =
+    let call = c.call-call-in-Calloc.result in
+    sized_known (length c.args.self.now.store.blocks) c.calloc.result c.in-Calloc.name.0 (sized_by (calloc_call call.letter c.in-Calloc.elements c.in-Calloc.size) call.locked) c.args.self.now.store c.calloc.new.self c.calloc.ensures.turn
+
+pub returns-in-Realloc-clause-known : goal.returns-in-Realloc-clause-known
+returns-in-Realloc-clause-known g c =
+    let call = c.call-call-in-Realloc.result in
+    sized_known (length c.args.self.now.store.blocks) c.realloc.result c.in-Realloc.name.0 (sized_by (realloc_call call.letter c.in-Realloc.size) call.locked) c.args.self.now.store c.realloc.new.self c.realloc.ensures.turn
+
+pub returns-in-Free-clause-known : goal.returns-in-Free-clause-known
+returns-in-Free-clause-known g c =
+    subst (λ (a : Answer). IsKnownReply (length c.args.self.now.store.blocks) a.reply) (sym c.unasked.ensures)
+    (textless (length c.args.self.now.store.blocks) c.free-reply.result _ c.free-reply.ensures.turn.answer)
 
 pub returns-in_ok-refuse-in-Refuse-clause-asks_arena : goal.returns-in_ok-refuse-in-Refuse-clause-asks_arena
 returns-in_ok-refuse-in-Refuse-clause-asks_arena g c =

@@ -79,7 +79,7 @@ returns-in-Start-clause-acts c =
 
 pub returns-in-Traced-clause-acts : goal.returns-in-Traced-clause-acts
 returns-in-Traced-clause-acts c =
-    traced_acts c.args.t c.args.op.now c.args.self.now c.traced.result.0 c.traced.result.1 c.in-Traced.is c.traced.ensures
+    traced_acts c.args.t c.args.op.now c.args.self.now c.traced-current.result.0 c.traced-current.result.1 c.in-Traced.is c.traced-current.ensures
 
 pub returns-in_ok-reply-in-Mark-clause-acts : goal.returns-in_ok-reply-in-Mark-clause-acts
 returns-in_ok-reply-in-Mark-clause-acts c =
