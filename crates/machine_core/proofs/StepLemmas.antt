@@ -1,9 +1,9 @@
 -- One event more: the state, and that the history stays legal.
-use Rattle.std.proofs.Common.{◌≡◌, ℕ, zero, suc, ◌+◌, ◌-◌, ◌^◌, ◌<◌, ◌≤◌, Bool, true, false, cond, List, [], ◌∷◌, ◌++◌, length, get_or, slice_get, set, map, Option, Some, None, refl, sym, ap, subst, ◌∙◌, arith, length-append, replicate}
+use Rattle.std.proofs.Common.{◌≡◌, ℕ, zero, suc, ◌+◌, ◌-◌, ◌^◌, ◌<◌, ◌≤◌, Bool, true, false, cond, List, [], ◌∷◌, ◌++◌, length, get_or, slice_get, set, map, take, Option, Some, None, refl, sym, ap, subst, ◌∙◌, arith, length-append, replicate}
 use Rattle.std.specs.Prelude.{slice_index, IfSome, IfNone, sum_by}
 use Rattle.std.specs.Option.{option_map, option_and_then}
 use Rattle.std.proofs.lemmas.Option.{slice_get_within, slice_get-map, slice_get-get_or, slice_get_past}
-use Rattle.std.proofs.lemmas.List.{length-map, length-replicate}
+use Rattle.std.proofs.lemmas.List.{length-map, length-replicate, take_at}
 use Rattle.std.proofs.lemmas.List.Sums.{sum_by-cons}
 use Rattle.mem_base.specs.Name.{Name}
 use Rattle.mem_base.specs.Texts.{IsTable}
@@ -300,6 +300,12 @@ pub redone : {A : Type 0} (xs ys zs : List A) (x y : A) → ys ≡ xs ++ x ∷ [
 redone xs ys zs x y pushed put =
     let shorter : length (xs ++ x ∷ []) - 1 ≡ length xs = omega (arith, length-append xs (x ∷ [])) in
     put ∙ ap (λ (l : List _). set l (length l - 1) y) pushed ∙ ap (λ (n : ℕ). set (xs ++ x ∷ []) n y) shorter ∙ set_last xs x y
+
+-- what was just added is taken off again
+pub popped : {A : Type 0} (xs ys zs : List A) (x : A) → ys ≡ xs ++ x ∷ [] → zs ≡ take (length ys - 1) ys → zs ≡ xs
+popped xs ys zs x pushed taken =
+    let shorter : length (xs ++ x ∷ []) - 1 ≡ length xs = omega (arith, length-append xs (x ∷ [])) in
+    taken ∙ ap (λ (l : List _). take (length l - 1) l) pushed ∙ ap (λ (n : ℕ). take n (xs ++ x ∷ [])) shorter ∙ take_at xs (x ∷ []) (length xs) refl
 
 -- ---- there are few events
 
