@@ -1,5 +1,6 @@
 -- What names hold after an event.
-use Rattle.std.proofs.Common.{◌≡◌, ◌≢◌, ℕ, Bool, true, false, cond, List, Option, Some, None, refl, sym, ap, ◌∙◌, true≢false}
+use Rattle.std.proofs.Common.{◌≡◌, ◌≢◌, ℕ, Bool, true, false, cond, List, Option, Some, None, refl, sym, ap}
+use Rattle.std.proofs.Common.{◌∙◌, true≢false}
 use Rattle.mem_base.specs.Name.{Name}
 use Rattle.mem_base.specs.declared.history.Grant.{Grant}
 use Rattle.mem_base.specs.declared.history.Ask.{Ask}
@@ -16,7 +17,9 @@ use Rattle.event_model.specs.Blocks.{Home, Block}
 use Rattle.event_model.specs.Effects.{act, effect}
 use Rattle.event_model.specs.Events.{event, event_of, settle, advance, next_action}
 use Rattle.event_model.specs.Laws.{OtherNamesKeepTheirs, OnlyOkChangesBlocks, CallsGive, FreeTakes}
-use Rattle.event_model.specs.Memory.{Turn, turn_to, room_for, finding_of, SizedCall, came_to, block_made, new_block, new_block_turn, stays_in_place, request_to_move, changed_body, given_body, move_block, change_turn, sized_turn, free_unless}
+use Rattle.event_model.specs.Memory.{Turn, turn_to, room_for, finding_of, SizedCall, came_to, block_made}
+use Rattle.event_model.specs.Memory.{new_block, new_block_turn, stays_in_place, request_to_move, changed_body}
+use Rattle.event_model.specs.Memory.{given_body, move_block, change_turn, sized_turn, free_unless}
 use Rattle.event_model.specs.Replies.{PlainReply, ok, busy, is_fault}
 use Rattle.event_model.specs.State.{Held, State, is_owner}
 use Rattle.event_model.proofs.EffectLaws.{effect_keeps_others, effect_keeps_unless_ok, reply_of, sized_is}

@@ -1,6 +1,7 @@
 -- A trace under a block's name belongs to a live block of that name, and has its number of data bytes.
 use Rattle.std.proofs.Common.{◌≡◌, ◌≢◌, ℕ, ◌+◌, ◌-◌, ◌≤◌, ℤ, Bool, true, false, cond, List, [], ◌∷◌, ◌++◌, length}
-use Rattle.std.proofs.Common.{replicate, take, drop, Option, Some, None, refl, sym, ap, subst, ◌∙◌, inl, inr, ◌⊎◌, arith}
+use Rattle.std.proofs.Common.{replicate, take, drop, Option, Some, None, refl, sym, ap, subst, ◌∙◌, inl, inr}
+use Rattle.std.proofs.Common.{◌⊎◌, arith}
 use Rattle.std.proofs.Common.{true≢false}
 use Rattle.std.specs.Str.{bytes_eq}
 use Rattle.std.proofs.lemmas.Bool.{leb-true}
@@ -34,7 +35,8 @@ use Rattle.event_model.specs.History.{opening, state_after}
 use Rattle.event_model.specs.Laws.{TracesAreOfBlocks}
 use Rattle.event_model.specs.Memory.{SizedCall, Turn, calloc_call, finding_of, free_unless, given_body, malloc_call}
 use Rattle.event_model.specs.Memory.{poke_turn, realloc_call, sized_turn, turn_to}
-use Rattle.event_model.specs.Replies.{PlainReply, ok, null, busy, absent, outside, held, not_held, not_tracing, untraced}
+use Rattle.event_model.specs.Replies.{PlainReply, ok, null, busy, absent, outside, held, not_held}
+use Rattle.event_model.specs.Replies.{not_tracing, untraced}
 use Rattle.event_model.specs.Replies.{traced, frames, bytes, shape, fault, unsaid, is_fault, is_ok}
 use Rattle.event_model.specs.State.{Held, State, is_owner}
 use Rattle.event_model.specs.Tracing.{change_of, sized_change, trace_in, unknown_frame, where_ok}

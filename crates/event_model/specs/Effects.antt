@@ -13,13 +13,16 @@ use Rattle.layout_model.specs.Asks.Request.{NoRequest}
 use Rattle.layout_model.specs.Layout.{Layout}
 use Rattle.map_model.specs.Map.{find, hold}
 use Rattle.frame_model.specs.Frames.{PlainFrame, frames_below}
-use Rattle.trace_model.specs.Plain.{Action, acquire, release, malloc, calloc, realloc, free, poke, peek, enter, go_to, leave}
-use Rattle.trace_model.specs.Plain.{start_tracing, stop_tracing, clear_traces, reset_peak, traced_memory, mark, unmark, origin}
+use Rattle.trace_model.specs.Plain.{Action, acquire, release, malloc, calloc, realloc, free, poke, peek}
+use Rattle.trace_model.specs.Plain.{enter, go_to, leave}
+use Rattle.trace_model.specs.Plain.{start_tracing, stop_tracing, clear_traces, reset_peak, traced_memory}
+use Rattle.trace_model.specs.Plain.{mark, unmark, origin}
 use Rattle.trace_model.specs.Plain.{heap, refuse, other}
 use Rattle.event_model.specs.Blocks.{Block}
 use Rattle.event_model.specs.Frames.{with_call, frames_at, frames_then, with_line}
 use Rattle.event_model.specs.Lock.{acquire_turn, release_turn}
-use Rattle.event_model.specs.Memory.{SizedCall, Turn, calloc_call, free_turn, malloc_call, peek_turn, poke_turn, realloc_call, sized_request, sized_turn}
+use Rattle.event_model.specs.Memory.{SizedCall, Turn, calloc_call, free_turn, malloc_call, peek_turn}
+use Rattle.event_model.specs.Memory.{poke_turn, realloc_call, sized_request, sized_turn}
 use Rattle.event_model.specs.Replies.{PlainReply, ok, shape, unsaid}
 use Rattle.event_model.specs.Shape.{heap_view}
 use Rattle.event_model.specs.State.{Held, is_owner}

@@ -1,5 +1,6 @@
 -- Laws over histories.
-use Rattle.std.specs.Prelude.{◌≡◌, ◌≢◌, ◌↔◌, ◌⊎◌, ℕ, ◌+◌, ◌<◌, ◌≤◌, Bool, true, false, List, [], ◌∷◌, ◌++◌, map, length, Some, None, is_some}
+use Rattle.std.specs.Prelude.{◌≡◌, ◌≢◌, ◌↔◌, ◌⊎◌, ℕ, ◌+◌, ◌<◌, ◌≤◌, Bool, true, false, List, [], ◌∷◌, ◌++◌}
+use Rattle.std.specs.Prelude.{map, length, Some, None, is_some}
 use Rattle.std.specs.List.{AllByRecursion}
 use Rattle.mem_base.specs.Plan.{Plan, IsPlanned}
 use Rattle.mem_base.specs.declared.history.Entry.{Entry}

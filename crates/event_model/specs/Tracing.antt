@@ -7,8 +7,10 @@ use Rattle.frame_model.specs.Frames.{PlainFrame}
 use Rattle.tracing_model.specs.Traces.{Key, of_block, of_mark, TraceOf, trace_at}
 use Rattle.tracing_model.specs.Tracing.{Tracing, Change, gets, forgets, starts, stops, clears, resets, keeps, after}
 use Rattle.tracing_model.specs.Tracing.{peak, traced_now}
-use Rattle.trace_model.specs.Plain.{Action, acquire, release, malloc, calloc, realloc, free, poke, peek, enter, go_to, leave}
-use Rattle.trace_model.specs.Plain.{start_tracing, stop_tracing, clear_traces, reset_peak, traced_memory, mark, unmark, origin}
+use Rattle.trace_model.specs.Plain.{Action, acquire, release, malloc, calloc, realloc, free, poke, peek}
+use Rattle.trace_model.specs.Plain.{enter, go_to, leave}
+use Rattle.trace_model.specs.Plain.{start_tracing, stop_tracing, clear_traces, reset_peak, traced_memory}
+use Rattle.trace_model.specs.Plain.{mark, unmark, origin}
 use Rattle.trace_model.specs.Plain.{heap, refuse, other}
 use Rattle.event_model.specs.Memory.{SizedCall, calloc_call, malloc_call, realloc_call}
 use Rattle.event_model.specs.Replies.{PlainReply, ok, frames, is_ok, not_tracing, traced, untraced}

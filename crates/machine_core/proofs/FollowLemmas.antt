@@ -1,5 +1,7 @@
 -- What is traced after an operation, over what the operation itself did.
-use Rattle.std.proofs.Common.{◌≡◌, ℕ, zero, suc, ◌<◌, ◌≤◌, Bool, true, false, cond, List, [], ◌∷◌, length, map, replicate, Option, Some, None, Result, Ok, Err, refl, sym, ap, subst, ◌∙◌, arith, inl, inr, true≢false}
+use Rattle.std.proofs.Common.{◌≡◌, ℕ, zero, suc, ◌<◌, ◌≤◌, Bool, true, false, cond, List, [], ◌∷◌, length}
+use Rattle.std.proofs.Common.{map, replicate, Option, Some, None, Result, Ok, Err, refl, sym, ap, subst, ◌∙◌}
+use Rattle.std.proofs.Common.{arith, inl, inr, true≢false}
 use Rattle.std.specs.Prelude.{IfOk, is_some}
 use Rattle.std.proofs.lemmas.Option.{slice_get_within}
 use Rattle.mem_base.specs.Name.{Name}
@@ -24,8 +26,11 @@ use Rattle.request_model.proofs.CallerLemmas.{Decides, over_all, faulty, over_da
 use Rattle.event_model.specs.Blocks.{Block}
 use Rattle.event_model.specs.Effects.{act, effect, follow}
 use Rattle.event_model.specs.Frames.{frames_at}
-use Rattle.event_model.specs.Memory.{SizedCall, Turn, calloc_call, came_to, change_turn, finding_of, malloc_call, new_block_turn, realloc_call, sized_turn, turn_to}
-use Rattle.event_model.specs.Replies.{PlainReply, IsKnownReply, ok, null, busy, absent, outside, held, not_held, not_tracing, untraced, traced, frames, bytes, shape, fault, unsaid, frame_of, frames_of, is_fault, is_ok, plain_reply}
+use Rattle.event_model.specs.Memory.{SizedCall, Turn, calloc_call, came_to, change_turn, finding_of}
+use Rattle.event_model.specs.Memory.{malloc_call, new_block_turn, realloc_call, sized_turn, turn_to}
+use Rattle.event_model.specs.Replies.{PlainReply, IsKnownReply, ok, null, busy, absent, outside, held}
+use Rattle.event_model.specs.Replies.{not_held, not_tracing, untraced, traced, frames, bytes, shape, fault}
+use Rattle.event_model.specs.Replies.{unsaid, frame_of, frames_of, is_fault, is_ok, plain_reply}
 use Rattle.event_model.specs.State.{Held, is_owner}
 use Rattle.event_model.specs.Tracing.{change_of, tracing_after, unknown_frame, where_ok}
 use Rattle.domain_api.specs.declared.answers.Asked.{Asked}
@@ -249,7 +254,7 @@ module _ (texts : List Name) (names : IsTable texts) (t : ℕ) (mid now : Holdin
       → TracesStand texts now.callers.table new (after unknown_frame (frames_at g.frames t) change g.tracing)
   made_stands (prepared.Gets name of) change ready small made =
       let by : IsTraceBy now t of.size of = subst (λ (n : Holding). IsTraceBy n t of.size of) (sym others)
-          (record { limit = ready.2.limit; limited = ready.2.limited; kept = ready.2.kept; counted = ready.2.counted; sized = refl }) in
+      (record { limit = ready.2.limit; limited = ready.2.limited; kept = ready.2.kept; counted = ready.2.counted; sized = refl }) in
       subst (λ (c : Change). TracesStand texts now.callers.table new (after unknown_frame (frames_at g.frames t) c g.tracing)) (sym ready.0)
       (gets_stand texts now.callers.table now.tracing new (keys.Block name) (frames_at g.frames t) names.distinct (omega (arith, ready.1, known)) g.tracing by.limit of.size of
       stands.traces by.limited made (slice_get_within now.callers.table of.trace.0 _ by.kept) (trace_named texts names now g.frames stands.frames t of.size of by))

@@ -1,5 +1,7 @@
 -- What an operation does to what is held, by number and by name.
-use Rattle.std.proofs.Common.{◌≡◌, ℕ, ◌<◌, Bool, true, false, cond, List, length, map, set, Option, Some, None, Result, Ok, Err, ℤ, pos, negsuc, to_z, of_z, w64, refl, sym, ap, subst, ◌∙◌, arith, true≢false}
+use Rattle.std.proofs.Common.{◌≡◌, ℕ, ◌<◌, Bool, true, false, cond, List, length, map, set, Option, Some}
+use Rattle.std.proofs.Common.{None, Result, Ok, Err, ℤ, pos, negsuc, to_z, of_z, w64, refl, sym, ap, subst}
+use Rattle.std.proofs.Common.{◌∙◌, arith, true≢false}
 use Rattle.std.specs.Prelude.{IfOk}
 use Rattle.std.specs.declared.alloc.AllocError.{AllocError}
 use Rattle.std.proofs.lemmas.List.{set-get_or}
@@ -30,8 +32,12 @@ use Rattle.request_model.specs.Decision.{Decision, too_great, faults, asks, call
 use Rattle.event_model.specs.Blocks.{Block, Blocks, Home}
 use Rattle.event_model.specs.Effects.{effect, on_block, request_of, sized_call}
 use Rattle.event_model.specs.Lock.{acquire_turn, release_turn}
-use Rattle.event_model.specs.Memory.{SizedCall, Turn, calloc_call, came_to, change_turn, changed_body, finding_of, free_turn, free_unless, malloc_call, move_block, request_to_move, new_block, new_block_turn, peek_turn, poke_turn, realloc_call, room_for, sized_request, stays_in_place, turn_to}
-use Rattle.event_model.specs.Replies.{PlainReply, busy, held as held_reply, not_held, ok, outside, bytes, frames_of, is_fault, plain_reply}
+use Rattle.event_model.specs.Memory.{SizedCall, Turn, calloc_call, came_to, change_turn, changed_body}
+use Rattle.event_model.specs.Memory.{finding_of, free_turn, free_unless, malloc_call, move_block}
+use Rattle.event_model.specs.Memory.{request_to_move, new_block, new_block_turn, peek_turn, poke_turn}
+use Rattle.event_model.specs.Memory.{realloc_call, room_for, sized_request, stays_in_place, turn_to}
+use Rattle.event_model.specs.Replies.{PlainReply, busy, held as held_reply, not_held, ok, outside, bytes}
+use Rattle.event_model.specs.Replies.{frames_of, is_fault, plain_reply}
 use Rattle.event_model.specs.State.{Held, is_owner}
 use Rattle.event_model.specs.Tracing.{change_of}
 use Rattle.event_model.proofs.CallerLemmas.{sized_asks, sized_is}
@@ -85,8 +91,8 @@ module _ (texts : List Name) (h : Held) (old new : Holding) (name : TextId) (f :
   turn_stands =
       with_store texts h old new by_name.0.blocks by_name.0.layout stands others
       (subst (λ (t : Turn). Holds texts new.store.blocks (hold h.blocks (text_at texts name) t.block)) (sym same)
-        (subst (λ (l : List (Option Block)). Holds texts l (hold h.blocks (text_at texts name) (f old.store.layout (block_at old.store name.0)).block)) (sym turn.blocks)
-        (hold_holds texts old.store.blocks h.blocks name (f old.store.layout (block_at old.store name.0)).block distinct stands.blocks lt)))
+      (subst (λ (l : List (Option Block)). Holds texts l (hold h.blocks (text_at texts name) (f old.store.layout (block_at old.store name.0)).block)) (sym turn.blocks)
+      (hold_holds texts old.store.blocks h.blocks name (f old.store.layout (block_at old.store name.0)).block distinct stands.blocks lt)))
       (turn.layout ∙ ap (λ (t : Turn). t.layout) (sym same))
 
   fault_stands : StaysAtFault f → is_fault (f old.store.layout (block_at old.store name.0)).answer ≡ true → StandsFor texts new h

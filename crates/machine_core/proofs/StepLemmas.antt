@@ -1,5 +1,7 @@
 -- One event more: the state, and that the history stays legal.
-use Rattle.std.proofs.Common.{◌≡◌, ℕ, zero, suc, ◌+◌, ◌-◌, ◌^◌, ◌<◌, ◌≤◌, Bool, true, false, cond, List, [], ◌∷◌, ◌++◌, length, get_or, slice_get, set, map, take, Option, Some, None, refl, sym, ap, subst, ◌∙◌, arith, length-append, replicate}
+use Rattle.std.proofs.Common.{◌≡◌, ℕ, zero, suc, ◌+◌, ◌-◌, ◌^◌, ◌<◌, ◌≤◌, Bool, true, false, cond, List, []}
+use Rattle.std.proofs.Common.{◌∷◌, ◌++◌, length, get_or, slice_get, set, map, take, Option, Some, None, refl}
+use Rattle.std.proofs.Common.{sym, ap, subst, ◌∙◌, arith, length-append, replicate}
 use Rattle.std.specs.Prelude.{slice_index, IfSome, IfNone, sum_by}
 use Rattle.std.specs.Option.{option_map, option_and_then}
 use Rattle.std.proofs.lemmas.Option.{slice_get_within, slice_get-map, slice_get-get_or, slice_get_past}
@@ -23,7 +25,8 @@ use Rattle.layout_model.specs.Layout.{Layout}
 use Rattle.request_model.specs.Counts.{asks_in, refusals_in}
 use Rattle.event_model.specs.Blocks.{Block}
 use Rattle.event_model.specs.Effects.{act}
-use Rattle.event_model.specs.Events.{event, event_of, settle, advance, let_go, action_after, next_action, next_request, may_do, is_ready}
+use Rattle.event_model.specs.Events.{event, event_of, settle, advance, let_go, action_after, next_action}
+use Rattle.event_model.specs.Events.{next_request, may_do, is_ready}
 use Rattle.event_model.specs.History.{opening, last_state, IsNext}
 use Rattle.event_model.specs.Plans.{GrowsBy, lists}
 use Rattle.event_model.specs.Replies.{PlainReply, frames_of, is_fault, plain_reply}

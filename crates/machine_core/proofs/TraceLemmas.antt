@@ -1,5 +1,7 @@
 -- What is traced by number and by name, and what each change leaves of it.
-use Rattle.std.proofs.Common.{◌≡◌, ◌≢◌, ℕ, ◌+◌, ◌<◌, ◌≤◌, max, Bool, true, false, List, [], ◌∷◌, length, get_or, slice_get, Option, Some, None, refl, sym, ap, subst, ◌∙◌, arith, true≢false}
+use Rattle.std.proofs.Common.{◌≡◌, ◌≢◌, ℕ, ◌+◌, ◌<◌, ◌≤◌, max, Bool, true, false, List, [], ◌∷◌, length}
+use Rattle.std.proofs.Common.{get_or, slice_get, Option, Some, None, refl, sym, ap, subst, ◌∙◌, arith}
+use Rattle.std.proofs.Common.{true≢false}
 use Rattle.std.specs.Prelude.{IfSome, IfNone, unwrap_or}
 use Rattle.std.specs.Option.{option_map}
 use Rattle.std.proofs.lemmas.Option.{slice_get_within, slice_get-get_or}
@@ -8,9 +10,12 @@ use Rattle.mem_base.specs.Texts.{IsDistinct}
 use Rattle.mem_base.specs.declared.reply.Frame.{Frame}
 use Rattle.mem_base.specs.declared.texts.TextId.{TextId}
 use Rattle.frame_model.specs.Frames.{PlainFrame}
-use Rattle.tracing_model.specs.Traces.{Key, of_block, of_mark, TraceOf, AreDistinct, size_in, trace_at, traces_with, traces_without}
-use Rattle.tracing_model.specs.Tracing.{Tracing, gets, forgets, starts, stops, clears, resets, keeps, after, peak, trace_of as trace_now, traced_now}
-use Rattle.tracing_model.proofs.CallerLemmas.{fewer_bytes, fewer_distinct, gone_at, gone_other, got_at, got_other, more_bytes, peak_rises, with_distinct}
+use Rattle.tracing_model.specs.Traces.{Key, of_block, of_mark, TraceOf, AreDistinct, size_in, trace_at}
+use Rattle.tracing_model.specs.Traces.{traces_with, traces_without}
+use Rattle.tracing_model.specs.Tracing.{Tracing, gets, forgets, starts, stops, clears, resets, keeps, after}
+use Rattle.tracing_model.specs.Tracing.{peak, trace_of as trace_now, traced_now}
+use Rattle.tracing_model.proofs.CallerLemmas.{fewer_bytes, fewer_distinct, gone_at, gone_other, got_at}
+use Rattle.tracing_model.proofs.CallerLemmas.{got_other, more_bytes, peak_rises, with_distinct}
 use Rattle.trace_model.specs.Plain.{text_at}
 use Rattle.event_model.specs.Replies.{frames_of}
 use Rattle.event_model.specs.Tracing.{trace_in, unknown_frame}
@@ -20,7 +25,8 @@ use Rattle.trace_table.specs.declared.key.TraceKey.{TraceKey}
 use Rattle.trace_table.specs.declared.key.TraceKey.TheVariants as keys
 use Rattle.trace_table.specs.declared.key.TraceOf.{TraceOf as Stored}
 use Rattle.trace_table.proofs.CallerLemmas.{keys_tell}
-use Rattle.machine_core.specs.Traces.{IsKnownKey, IsNumbered, KeepsNumbers, KeyStands, TracesStand, key_of, trace_of, traceback_at}
+use Rattle.machine_core.specs.Traces.{IsKnownKey, IsNumbered, KeepsNumbers, KeyStands, TracesStand, key_of}
+use Rattle.machine_core.specs.Traces.{trace_of, traceback_at}
 
 -- ---- keys
 

@@ -1,5 +1,6 @@
 -- What the operations on frames and of tracing do.
-use Rattle.std.proofs.Common.{◌≡◌, ℕ, ◌<◌, Bool, true, false, cond, List, [], length, map, slice_get, Option, Some, None, refl, sym, ap, subst, ◌∙◌, arith, true≢false}
+use Rattle.std.proofs.Common.{◌≡◌, ℕ, ◌<◌, Bool, true, false, cond, List, [], length, map, slice_get, Option}
+use Rattle.std.proofs.Common.{Some, None, refl, sym, ap, subst, ◌∙◌, arith, true≢false}
 use Rattle.std.specs.Prelude.{IfNone, IfSome, unwrap_or}
 use Rattle.std.specs.Option.{option_map}
 use Rattle.std.proofs.lemmas.Option.{slice_get_within}
@@ -39,7 +40,8 @@ use Rattle.machine_core.specs.Traces.{TracesStand, trace_of}
 use Rattle.machine_core.specs.declared.held.Held.{Held as Holding}
 use Rattle.machine_core.proofs.FollowLemmas.{as_it_was_stands, follows, kept, unchanged}
 use Rattle.machine_core.proofs.FrameLemmas.{below_named, call_named, line_named, stacks_change, trace_named}
-use Rattle.machine_core.proofs.TraceLemmas.{clears_stand, forgets_stand, gets_stand, idle_forgets, idle_stands, resets_stand, starts_stand, stops_stand}
+use Rattle.machine_core.proofs.TraceLemmas.{clears_stand, forgets_stand, gets_stand, idle_forgets}
+use Rattle.machine_core.proofs.TraceLemmas.{idle_stands, resets_stand, starts_stand, stops_stand}
 
 -- no source is asked
 nothing_asked : (l : Layout) → FitsRequest l NoRequest grant.NotAsked ask.NotAsked
@@ -95,7 +97,7 @@ module _ (t : ℕ) (op : Op) (old mid new : Holding) (reply : Reply) (same : IsA
   traces_act : (o : Op) → ((texts : List Name) → is_fault (plain_reply texts reply) ≡ false) → ((texts : List Name) (h : Held) → request_of h t (action_of texts o) ≡ NoRequest)
       → ((texts : List Name) (h : Held) → StandsFor texts mid h → effect h t (action_of texts o) grant.NotAsked ask.NotAsked ≡ (h, plain_reply texts reply))
       → ((texts : List Name) (g : Held) → IsTable texts → StandsFor texts mid g
-          → TracesStand texts mid.callers.table new.tracing (tracing_after (frames_at g.frames t) (action_of texts o) (plain_reply texts reply) g.tracing))
+      → TracesStand texts mid.callers.table new.tracing (tracing_after (frames_at g.frames t) (action_of texts o) (plain_reply texts reply) g.tracing))
       → Acts t o old new not_asked reply
   traces_act o sound none does then_traced = λ texts h names stands.
       let before = as_it_was_stands texts old mid h same stands in
@@ -108,7 +110,7 @@ module _ (t : ℕ) (op : Op) (old mid new : Holding) (reply : Reply) (same : IsA
       follows texts h t o not_asked mid new reply e others
       (λ fell. absurd (true≢false (sym fell ∙ ap (λ (x : Held × PlainReply). is_fault x.1) is ∙ sound texts)))
       (λ g there. subst (λ (r : PlainReply). TracesStand texts mid.callers.table new.tracing (tracing_after (frames_at g.frames t) (action_of texts o) r g.tracing)) (sym (ap (λ (x : Held × PlainReply). x.1) is))
-        (then_traced texts g names there))
+      (then_traced texts g names there))
 
 -- tracing starts and stops, the traces are cleared and the peak is reset
 module _ (t : ℕ) (op : Op) (old new : Holding) (others : new ≡ record old { tracing = new.tracing }) where
@@ -202,7 +204,7 @@ module _ (t : ℕ) (old mid new : Holding) (domain number : ℕ) (same : IsAsItW
       traces_act t (ops.Mark domain number size) old mid new replies.Ok same others (ops.Mark domain number size) (λ texts. refl) (λ texts h. refl)
       (λ texts h stands. ap (λ (r : PlainReply). (h, r)) (mark_tells h.tracing by.limit (sym stands.traces.limit ∙ by.limited)))
       (λ texts g names there. gets_stand texts mid.callers.table mid.tracing new.tracing (keys.Number domain number) (frames_at g.frames t) names.distinct tt g.tracing by.limit size of
-        there.traces by.limited change (slice_get_within mid.callers.table of.trace.0 _ by.kept) (trace_named texts names mid g.frames there.frames t size of by))
+      there.traces by.limited change (slice_get_within mid.callers.table of.trace.0 _ by.kept) (trace_named texts names mid g.frames there.frames t size of by))
 
   -- nothing is traced
   pub mark_idle : (size : ℕ) → mid.tracing.limit ≡ None → new ≡ mid → Acts t (ops.Mark domain number size) old new not_asked replies.NotTracing

@@ -69,12 +69,7 @@ impl Held {
     }
 
     // Makes ready for the block of a name, which may get so many bytes.
-    fn prepare_for(
-        &mut self,
-        t: TrackId,
-        name: TextId,
-        size: u64,
-    ) -> Result<Prepared, AllocError>
+    fn prepare_for(&mut self, t: TrackId, name: TextId, size: u64) -> Result<Prepared, AllocError>
         requires track { t < length self.old.callers.frames }
         requires known { name.0 < length self.old.store.blocks }
         ensures prepared { IfOk result (λ p. (texts : List Name) →

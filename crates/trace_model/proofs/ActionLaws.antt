@@ -1,5 +1,7 @@
 -- Words that are read as an operation are its words, and its words are read as it.
-use Rattle.std.proofs.Common.{◌≡◌, ℕ, zero, suc, ◌<◌, ◌≤◌, Bool, true, cond, List, [], ◌∷◌, ◌++◌, length, length-append, map, slice_get, Option, Some, Ok, Err, refl, sym, ap, subst, inl, inr, lit<, arith}
+use Rattle.std.proofs.Common.{◌≡◌, ℕ, zero, suc, ◌<◌, ◌≤◌, Bool, true, cond, List, [], ◌∷◌, ◌++◌, length}
+use Rattle.std.proofs.Common.{length-append, map, slice_get, Option, Some, Ok, Err, refl, sym, ap, subst, inl}
+use Rattle.std.proofs.Common.{inr, lit<, arith}
 use Rattle.std.specs.Prelude.{nat_le, unwrap_or}
 use Rattle.std.specs.List.{AllByRecursion, list_all}
 use Rattle.std.proofs.lemmas.Bool.{leb-true, le-leb}
@@ -8,13 +10,19 @@ use Rattle.mem_base.specs.declared.texts.TextId.{TextId}
 use Rattle.mem_base.specs.declared.trace.Op.{Op}
 use Rattle.mem_base.specs.declared.trace.Op.TheVariants as code
 use Rattle.mem_base.specs.declared.limits.TheConstants.{MAX_FRAME_LIMIT, MAX_LINE, MAX_REACH, MAX_REFUSAL}
-use Rattle.trace_model.specs.Operands.{◌>>=◌, is_between, is_file, is_name, is_forged, max_domain, hex_word, number_at, offset_at}
-use Rattle.trace_model.specs.Operands.{count_at, refusal_at, line_number_at, limit_at, domain_at, name_at, file_at, letter_at}
+use Rattle.trace_model.specs.Operands.{◌>>=◌, is_between, is_file, is_name, is_forged, max_domain, hex_word}
+use Rattle.trace_model.specs.Operands.{number_at, offset_at}
+use Rattle.trace_model.specs.Operands.{count_at, refusal_at, line_number_at, limit_at, domain_at, name_at}
+use Rattle.trace_model.specs.Operands.{file_at, letter_at}
 use Rattle.trace_model.specs.Operands.{side_at, hex_from, hex_at}
-use Rattle.trace_model.specs.Plain.{Action, acquire, release, malloc, calloc, realloc, free, poke, peek, enter, go_to, leave}
-use Rattle.trace_model.specs.Plain.{start_tracing, stop_tracing, clear_traces, reset_peak, traced_memory, mark, unmark, origin}
-use Rattle.trace_model.specs.Plain.{heap, refuse, other, keyword_text, action_of, keyword_among, keyword_of, operands_of, text_at}
-use Rattle.trace_model.specs.Plain.{Fits, honest_poke, malloc_at, calloc_at, realloc_at, free_at, poke_at, peek_at, enter_at}
+use Rattle.trace_model.specs.Plain.{Action, acquire, release, malloc, calloc, realloc, free, poke, peek}
+use Rattle.trace_model.specs.Plain.{enter, go_to, leave}
+use Rattle.trace_model.specs.Plain.{start_tracing, stop_tracing, clear_traces, reset_peak, traced_memory}
+use Rattle.trace_model.specs.Plain.{mark, unmark, origin}
+use Rattle.trace_model.specs.Plain.{heap, refuse, other, keyword_text, action_of, keyword_among, keyword_of}
+use Rattle.trace_model.specs.Plain.{operands_of, text_at}
+use Rattle.trace_model.specs.Plain.{Fits, honest_poke, malloc_at, calloc_at, realloc_at, free_at, poke_at}
+use Rattle.trace_model.specs.Plain.{peek_at, enter_at}
 use Rattle.trace_model.specs.Plain.{go_to_at, start_tracing_at, mark_at, unmark_at, origin_at, refuse_at, action_at}
 use Rattle.trace_model.specs.Known.{IsKnown, IsKnownOp}
 use Rattle.trace_model.specs.Spelling.{words_after, line_of}
@@ -23,8 +31,12 @@ use Rattle.trace_model.specs.declared.keyword.Keyword.{Keyword}
 use Rattle.trace_model.specs.declared.keyword.Keyword.TheVariants as keys
 use Rattle.trace_model.specs.declared.keyword.Head.TheVariants as heads
 use Rattle.trace_model.specs.declared.cause.TraceCause.TheVariants.{BadRange, BadName, ForgedLetter}
-use Rattle.trace_model.proofs.OperandLaws.{both, bind_ok, test_holds, test_fails, ok_is, one_of, number_takes, number_again, ranged_takes, ranged_again, offset_takes, offset_again, name_takes, file_takes, letter_takes, letter_again, side_takes, side_again, hex_takes, hex_back}
-use Rattle.trace_model.proofs.WordLaws.{is_word, name_word, file_word, number_word, offset_word, hex_is_word, letter_is_word, side_is_word, words_plain}
+use Rattle.trace_model.proofs.OperandLaws.{both, bind_ok, test_holds, test_fails, ok_is, one_of, number_takes}
+use Rattle.trace_model.proofs.OperandLaws.{number_again, ranged_takes, ranged_again, offset_takes}
+use Rattle.trace_model.proofs.OperandLaws.{offset_again, name_takes, file_takes, letter_takes, letter_again}
+use Rattle.trace_model.proofs.OperandLaws.{side_takes, side_again, hex_takes, hex_back}
+use Rattle.trace_model.proofs.WordLaws.{is_word, name_word, file_word, number_word, offset_word, hex_is_word}
+use Rattle.trace_model.proofs.WordLaws.{letter_is_word, side_is_word, words_plain}
 
 -- ---- keywords
 

@@ -1,5 +1,7 @@
 -- What is read is spelled so, and what is spelled so is read.
-use Rattle.std.proofs.Common.{◌≡◌, ℕ, zero, suc, ◌+◌, ◌<◌, ◌≤◌, Bool, true, false, cond, not, ◌&&◌, ◌||◌, List, [], ◌∷◌, ◌++◌, length, Result, Ok, Err, refl, sym, ap, subst, ◌∙◌, append_assoc, append-nil, arith, length-append, lit<, true≢false}
+use Rattle.std.proofs.Common.{◌≡◌, ℕ, zero, suc, ◌+◌, ◌<◌, ◌≤◌, Bool, true, false, cond, not, ◌&&◌, ◌||◌}
+use Rattle.std.proofs.Common.{List, [], ◌∷◌, ◌++◌, length, Result, Ok, Err, refl, sym, ap, subst, ◌∙◌}
+use Rattle.std.proofs.Common.{append_assoc, append-nil, arith, length-append, lit<, true≢false}
 use Rattle.std.specs.Prelude.{◌==◌, nat_le, nat_lt, decimal}
 use Rattle.std.specs.List.{AllByRecursion, list_all, list_any, slice_split, join_with_byte}
 use Rattle.std.specs.Str.{bytes_eq}
@@ -14,20 +16,31 @@ use Rattle.mem_base.specs.declared.limits.TheConstants.{MAX_OPS, MAX_PICKS, MAX_
 use Rattle.mem_base.specs.Texts.{IsDistinct}
 use Rattle.mem_base.specs.Name.{Name}
 use Rattle.trace_model.specs.Operands.{is_between, is_name}
-use Rattle.trace_model.specs.Plain.{Action, PlainTrack, PlainTrace, is_report, depth, has_frame, keeps_few, Fits, KeepFrames}
-use Rattle.trace_model.specs.Spelling.{head_text, line_of, track_line, pick_line, with_end, action_lines, track_lines, pick_lines, names_of, name_at_index, action_count, reports_in, report_count, pick_count, header, body, spelling, line_end, FitsTrack, FitsPick, IsWellFormed}
+use Rattle.trace_model.specs.Plain.{Action, PlainTrack, PlainTrace, is_report, depth, has_frame, keeps_few}
+use Rattle.trace_model.specs.Plain.{Fits, KeepFrames}
+use Rattle.trace_model.specs.Spelling.{head_text, line_of, track_line, pick_line, with_end, action_lines}
+use Rattle.trace_model.specs.Spelling.{track_lines, pick_lines, names_of, name_at_index, action_count}
+use Rattle.trace_model.specs.Spelling.{reports_in, report_count, pick_count, header, body, spelling, line_end}
+use Rattle.trace_model.specs.Spelling.{FitsTrack, FitsPick, IsWellFormed}
 use Rattle.trace_model.specs.declared.keyword.Keyword.{Keyword}
 use Rattle.trace_model.specs.declared.keyword.Head.TheVariants as heads
 use Rattle.trace_model.specs.declared.cause.TraceCause.{TraceCause}
 use Rattle.trace_model.specs.declared.cause.TraceCause.TheVariants.{BadEnd, BadHeader, NoFrame, SameTrack, TooMany}
-use Rattle.trace_model.specs.Reading.{Stop, then_lines, line_at, lines_at, header_at, trace_at, opening, is_empty, index_of, pick, start, with_track, with_action, open_frames, has_room, add}
+use Rattle.trace_model.specs.Reading.{Stop, then_lines, line_at, lines_at, header_at, trace_at, opening}
+use Rattle.trace_model.specs.Reading.{is_empty, index_of, pick, start, with_track, with_action, open_frames}
+use Rattle.trace_model.specs.Reading.{has_room, add}
 use Rattle.trace_model.proofs.OperandLaws.{both, test_holds, test_fails, ok_is}
 use Rattle.trace_model.proofs.WordLaws.{words_plain, track_words_fit, pick_words_fit, cut_first, not_sep}
 use Rattle.trace_model.proofs.ActionLaws.{line_words}
-use Rattle.trace_model.proofs.LineLaws.{Adds, a_track, a_pick, an_action, line_takes, action_line_again, track_line_again, pick_line_again}
+use Rattle.trace_model.proofs.LineLaws.{Adds, a_track, a_pick, an_action, line_takes, action_line_again}
+use Rattle.trace_model.proofs.LineLaws.{track_line_again, pick_line_again}
 use Rattle.trace_model.proofs.NameLaws.{distinct_push, fresh_name, names_with, index_takes, index_again}
 use Rattle.trace_model.proofs.LineSteps.{with_header, with_line}
-use Rattle.trace_model.proofs.TrackLaws.{all_push, lines_of, new_track, count_of_new, reports_of_new, reports_in-cons, reports_in-push, room_kept, room_had, depth_push, open_with_last, suc_not_zero, length-with_action, action_count-with, report_count-with, fits_with, lines_with, with_last, counts_with_last, reports_with_last}
+use Rattle.trace_model.proofs.TrackLaws.{all_push, lines_of, new_track, count_of_new, reports_of_new}
+use Rattle.trace_model.proofs.TrackLaws.{reports_in-cons, reports_in-push, room_kept, room_had, depth_push}
+use Rattle.trace_model.proofs.TrackLaws.{open_with_last, suc_not_zero, length-with_action, action_count-with}
+use Rattle.trace_model.proofs.TrackLaws.{report_count-with, fits_with, lines_with, with_last}
+use Rattle.trace_model.proofs.TrackLaws.{counts_with_last, reports_with_last}
 
 abbrev fine : PlainTrace → Result PlainTrace Stop
 fine t = Ok t

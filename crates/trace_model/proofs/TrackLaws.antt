@@ -1,5 +1,7 @@
 -- What one more track and one more operation add to a trace's spelling.
-use Rattle.std.proofs.Common.{◌≡◌, ℕ, suc, ◌+◌, ◌<◌, ◌≤◌, Bool, true, false, cond, not, ◌||◌, List, [], ◌∷◌, ◌++◌, length, refl, sym, ap, ◌∙◌, append_assoc, append-nil, arith, length-append, true≢false}
+use Rattle.std.proofs.Common.{◌≡◌, ℕ, suc, ◌+◌, ◌<◌, ◌≤◌, Bool, true, false, cond, not, ◌||◌, List, [], ◌∷◌}
+use Rattle.std.proofs.Common.{◌++◌, length, refl, sym, ap, ◌∙◌, append_assoc, append-nil, arith}
+use Rattle.std.proofs.Common.{length-append, true≢false}
 use Rattle.std.specs.Prelude.{◌==◌, nat_lt}
 use Rattle.std.specs.List.{AllByRecursion}
 use Rattle.std.proofs.lemmas.Bool.{eqb-true, ltb-true, lt-ltb}
@@ -7,8 +9,10 @@ use Rattle.std.proofs.lemmas.List.Concat.{flat_map-cons}
 use Rattle.std.proofs.lemmas.List.Sums.{sum_by-cons, sum_by-append}
 use Rattle.std.proofs.lemmas.Grind.{flat_map-append}
 use Rattle.mem_base.specs.Name.{Name}
-use Rattle.trace_model.specs.Plain.{Action, PlainTrack, is_report, depth, depth_after, depth_from, has_frame, keeps_few, Fits, KeepFrames}
-use Rattle.trace_model.specs.Spelling.{line_of, track_line, with_end, action_lines, track_lines, action_count, reports_in, report_count, FitsTrack}
+use Rattle.trace_model.specs.Plain.{Action, PlainTrack, is_report, depth, depth_after, depth_from, has_frame}
+use Rattle.trace_model.specs.Plain.{keeps_few, Fits, KeepFrames}
+use Rattle.trace_model.specs.Spelling.{line_of, track_line, with_end, action_lines, track_lines, action_count}
+use Rattle.trace_model.specs.Spelling.{reports_in, report_count, FitsTrack}
 use Rattle.trace_model.specs.Reading.{open_frames, with_action}
 
 pub all_push : {X : Type 0} (P : X → Type 0) (xs : List X) (x : X) → AllByRecursion P xs → P x → AllByRecursion P (xs ++ x ∷ [])

@@ -1,5 +1,7 @@
 -- The words of an operation hold no blank, so a line that is cut at its blanks gives them back.
-use Rattle.std.proofs.Common.{◌≡◌, ℕ, suc, ◌+◌, ◌/◌, ◌%◌, ◌^◌, ◌<◌, ◌≤◌, Bool, true, false, cond, ◌&&◌, ◌||◌, List, [], ◌∷◌, ◌++◌, length, ℤ, pos, negsuc, refl, ap, ◌∙◌, arith, inl, inr, ◌⊎◌, lit<, lit≤}
+use Rattle.std.proofs.Common.{◌≡◌, ℕ, suc, ◌+◌, ◌/◌, ◌%◌, ◌^◌, ◌<◌, ◌≤◌, Bool, true, false, cond, ◌&&◌, ◌||◌}
+use Rattle.std.proofs.Common.{List, [], ◌∷◌, ◌++◌, length, ℤ, pos, negsuc, refl, ap, ◌∙◌, arith, inl, inr}
+use Rattle.std.proofs.Common.{◌⊎◌, lit<, lit≤}
 use Rattle.std.specs.Prelude.{nat_le, ◌==◌, decimal, codes}
 use Rattle.std.specs.List.{AllByRecursion, list_all, slice_split, onto_first, join_with_byte}
 use Rattle.std.specs.Fmt.{signed_decimal}
@@ -13,7 +15,8 @@ use Rattle.mem_base.specs.declared.trace.Side.TheVariants as sides
 use Rattle.mem_base.specs.Name.{Name}
 use Rattle.mem_base.specs.declared.limits.TheConstants.{MAX_PICKS}
 use Rattle.mem_base.specs.Offset.{IsOffset}
-use Rattle.trace_model.specs.Operands.{is_between, is_file, is_name, is_name_byte, letter_word, side_word, hex_word, glyph}
+use Rattle.trace_model.specs.Operands.{is_between, is_file, is_name, is_name_byte, letter_word, side_word}
+use Rattle.trace_model.specs.Operands.{hex_word, glyph}
 use Rattle.trace_model.proofs.OperandLaws.{are_digits, own, both, low, high, between, whole}
 
 abbrev pub has_some : List ℕ → Bool

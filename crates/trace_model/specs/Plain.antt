@@ -18,8 +18,10 @@ use Rattle.mem_base.specs.declared.trace.Op.TheVariants as code
 use Rattle.mem_base.specs.declared.trace.Pick.{Pick}
 use Rattle.mem_base.specs.declared.trace.Track.{Track}
 use Rattle.mem_base.specs.declared.trace.Trace.{Trace}
-use Rattle.trace_model.specs.Operands.{◌>>=◌, is_file, is_name, is_forged, letter_word, side_word, hex_word, max_domain}
-use Rattle.trace_model.specs.Operands.{number_at, offset_at, count_at, refusal_at, name_at, letter_at, side_at, hex_at}
+use Rattle.trace_model.specs.Operands.{◌>>=◌, is_file, is_name, is_forged, letter_word, side_word, hex_word}
+use Rattle.trace_model.specs.Operands.{max_domain}
+use Rattle.trace_model.specs.Operands.{number_at, offset_at, count_at, refusal_at, name_at, letter_at}
+use Rattle.trace_model.specs.Operands.{side_at, hex_at}
 use Rattle.trace_model.specs.Operands.{file_at, line_number_at, limit_at, domain_at}
 use Rattle.trace_model.specs.declared.cause.TraceCause.{TraceCause}
 use Rattle.trace_model.specs.declared.cause.TraceCause.TheVariants.{UnknownWord, BadWords, ForgedLetter}

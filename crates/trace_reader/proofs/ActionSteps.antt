@@ -1,5 +1,6 @@
 -- An operation that was read is added to the trace.
-use Rattle.std.proofs.Common.{◌≡◌, ℕ, ◌+◌, ◌<◌, Bool, true, false, cond, not, ◌&&◌, ◌||◌, List, [], ◌∷◌, ◌++◌, length, Result, Ok, Err, refl, sym, ap, subst, ◌∙◌, arith, true≢false}
+use Rattle.std.proofs.Common.{◌≡◌, ℕ, ◌+◌, ◌<◌, Bool, true, false, cond, not, ◌&&◌, ◌||◌, List, [], ◌∷◌, ◌++◌}
+use Rattle.std.proofs.Common.{length, Result, Ok, Err, refl, sym, ap, subst, ◌∙◌, arith, true≢false}
 use Rattle.std.specs.Prelude.{◌==◌, nat_le, nat_lt}
 use Rattle.std.specs.List.{AllByRecursion}
 use Rattle.std.proofs.lemmas.Bool.{leb-true, ltb-true}
@@ -9,7 +10,8 @@ use Rattle.mem_base.specs.declared.trace.Op.{Op}
 use Rattle.mem_base.specs.declared.trace.Track.{Track}
 use Rattle.mem_base.specs.Name.{Name}
 use Rattle.trace_model.specs.Operands.{◌>>=◌}
-use Rattle.trace_model.specs.Plain.{Action, PlainTrack, PlainTrace, plain, text_at, track_of, tracks_of, action_of, action_at}
+use Rattle.trace_model.specs.Plain.{Action, PlainTrack, PlainTrace, plain, text_at, track_of, tracks_of}
+use Rattle.trace_model.specs.Plain.{action_of, action_at}
 use Rattle.trace_model.specs.Plain.{depth_after, has_frame, is_report, keeps_few, text_of}
 use Rattle.trace_model.specs.Spelling.{action_count, report_count}
 use Rattle.trace_model.specs.Known.{IsKnownOp}
@@ -19,8 +21,10 @@ use Rattle.trace_model.specs.declared.cause.TraceCause.{TraceCause}
 use Rattle.trace_model.specs.declared.cause.TraceCause.TheVariants.{NoFrame, TooMany}
 use Rattle.trace_model.specs.declared.keyword.Keyword.{Keyword}
 use Rattle.trace_model.specs.declared.keyword.Head.TheVariants as heads
-use Rattle.trace_model.proofs.CallerLemmas.{both, test_fails, test_holds, open_with, all_push, suc_not_zero, action_count-with, report_count-with, table_with_action}
-use Rattle.trace_reader.specs.Progress.{AddsText, Extends, IsKnownTrack, IsKnownSoFar, bare, has_place, place_for, counts_with, with_op}
+use Rattle.trace_model.proofs.CallerLemmas.{both, test_fails, test_holds, open_with, all_push, suc_not_zero}
+use Rattle.trace_model.proofs.CallerLemmas.{action_count-with, report_count-with, table_with_action}
+use Rattle.trace_reader.specs.Progress.{AddsText, Extends, IsKnownTrack, IsKnownSoFar, bare, has_place}
+use Rattle.trace_reader.specs.Progress.{place_for, counts_with, with_op}
 use Rattle.trace_reader.specs.declared.progress.Progress.{Progress}
 use Rattle.trace_reader.proofs.Growth.{tracks_stay, tracks_still_known, few_more, report_is, need_is, depth_is}
 

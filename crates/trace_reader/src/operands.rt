@@ -1,9 +1,11 @@
 //! Each kind of operand of a line, read from its word: `Ok` of what the word spells, or the first
 //! cause for which it is refused. Words are bytes, and nothing is copied but the bytes of a poke.
-ghost use Rattle.std.specs.Prelude.{◌≡◌, ◌*◌, ◌+◌, ◌-◌, ◌^◌, ◌≤◌, ◌&&◌, ◌∷◌, ℕ, List, nat_lt, length, IfOk, Some, None, if◌then◌else◌};
+ghost use Rattle.std.specs.Prelude.{◌≡◌, ◌*◌, ◌+◌, ◌-◌, ◌^◌, ◌≤◌, ◌&&◌, ◌∷◌, ℕ, List, nat_lt, length, IfOk};
+ghost use Rattle.std.specs.Prelude.{Some, None, if◌then◌else◌};
 ghost use Rattle.std.specs.List.{list_all};
 ghost use Rattle.mem_base.specs.Offset.{IsOffset};
-ghost use Rattle.trace_model.specs.Operands.{is_between, is_file_byte, is_name_byte, digits_from, number_at, offset_at};
+ghost use Rattle.trace_model.specs.Operands.{is_between, is_file_byte, is_name_byte, digits_from, number_at};
+ghost use Rattle.trace_model.specs.Operands.{offset_at};
 ghost use Rattle.trace_model.specs.Operands.{forward_at, backward_at, number_in, count_at, refusal_at};
 ghost use Rattle.trace_model.specs.Operands.{line_number_at, limit_at, domain_at, file_at};
 ghost use Rattle.trace_model.specs.Operands.{times_at, name_at, letter_at, side_at, hex_from, hex_at};

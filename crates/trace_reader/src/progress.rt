@@ -5,11 +5,13 @@
 //! the order in which their faults count: the first word, its place among the lines, that no word is
 //! empty, and then the operands. Whether an operation has the frame that it speaks of, and whether there is
 //! room for it, is asked last.
-ghost use Rattle.std.specs.Prelude.{◌≡◌, ◌+◌, ◌<◌, ◌≤◌, ◌-◌, ◌^◌, length, map, IfOk, OnOk, Ok, Err, false, if◌then◌else◌};
+ghost use Rattle.std.specs.Prelude.{◌≡◌, ◌+◌, ◌<◌, ◌≤◌, ◌-◌, ◌^◌, length, map, IfOk, OnOk, Ok, Err, false};
+ghost use Rattle.std.specs.Prelude.{if◌then◌else◌};
 ghost use Rattle.std.specs.List.{list_any, AllByRecursion};
 ghost use Rattle.mem_base.specs.declared.limits.TheConstants.{MAX_FRAMES as most_frames, MAX_TRACKS as most_tracks};
 ghost use Rattle.trace_model.specs.Plain.{is_report, plain, tracks_of};
-ghost use Rattle.trace_model.specs.Reading.{line_at, words_at, item_at, start, start_at, pick_at, index_of, is_empty, opening};
+ghost use Rattle.trace_model.specs.Reading.{line_at, words_at, item_at, start, start_at, pick_at, index_of};
+ghost use Rattle.trace_model.specs.Reading.{is_empty, opening};
 ghost use Rattle.trace_model.specs.Reading as Reading;
 ghost use Rattle.trace_model.specs.declared.keyword.Head.TheVariants as heads;
 ghost use Rattle.trace_reader.specs.Answers.{Gives};

@@ -11,7 +11,8 @@ use Rattle.machine_core.specs.Acts.{Affects, Asks}
 use Rattle.machine_core.proofs.FollowLemmas.{sized_known, textless}
 use Rattle.machine_core.specs.declared.held.Held.{Held as Holding}
 use Rattle.machine_core.proofs.ActLemmas.{held_told, nothing_fails, nothing_fails_unrefused, on_err, told_asks}
-use Rattle.machine_core.proofs.HeldLemmas.{IsCallFor, call_is, free_affects, is_calloc, is_malloc, is_realloc, sized_does}
+use Rattle.machine_core.proofs.HeldLemmas.{IsCallFor, call_is, free_affects, is_calloc, is_malloc, is_realloc}
+use Rattle.machine_core.proofs.HeldLemmas.{sized_does}
 use Rattle.machine_core.proofs.held.Held.asking.Goals as goal
 
 pub returns-in-Malloc-clause-affects : goal.returns-in-Malloc-clause-affects

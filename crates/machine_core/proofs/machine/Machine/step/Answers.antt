@@ -7,7 +7,8 @@ use Rattle.event_model.specs.Replies.{IsKnownReply}
 use Rattle.machine_core.specs.Stands.{Stands}
 use Rattle.machine_core.specs.View.{IsEvent, MachineView, Requests, state_of, tracks_of}
 use Rattle.machine_core.proofs.ActLemmas.{nothing_fails, on_err}
-use Rattle.machine_core.proofs.StepLemmas.{few_taken, here_is, within, stands_still, stands_then, reply_is, is_next, popped, requests_are, redone}
+use Rattle.machine_core.proofs.StepLemmas.{few_taken, here_is, within, stands_still, stands_then, reply_is}
+use Rattle.machine_core.proofs.StepLemmas.{is_next, popped, requests_are, redone}
 use Rattle.machine_core.proofs.machine.Machine.step.Goals as goal
 
 pub returns-in_err-push-clause-fails_arena : goal.returns-in_err-push-clause-fails_arena
