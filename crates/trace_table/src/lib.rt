@@ -17,9 +17,11 @@
 #![tactic(auto)]
 
 mod key;
+mod snapshot;
 #[cfg(test)]
 mod tests;
 mod tracing;
 
 pub use key::{TraceKey, TraceOf};
+pub use snapshot::{Row, Snapshot};
 pub use tracing::{MarkError, Tracing};

@@ -1,0 +1,3 @@
+pub mod CallerLemmas
+pub mod Keeping
+pub mod Order
