@@ -1,6 +1,6 @@
 -- What the sources see while an operation is done.
-use Rattle.std.proofs.Common.{◌≡◌, ℕ, ◌+◌, Bool, true, false, List, Some, None, Result, Ok, Err, refl, sym}
-use Rattle.std.proofs.Common.{ap, subst, ◌∙◌, arith, true≢false}
+use Rattle.std.proofs.Common.{◌≡◌, ℕ, ◌+◌, Bool, true, false, List, Some, None, Result, Ok, Err, refl, sym, ap}
+use Rattle.std.proofs.Common.{subst, ◌∙◌, arith, true≢false}
 use Rattle.std.specs.Prelude.{◌==◌, ◌||◌, OnErr}
 use Rattle.mem_base.specs.Name.{Name}
 use Rattle.mem_base.specs.Plan.{Plan, plan_with}
@@ -67,13 +67,16 @@ quiet_lists ops.Heap side quiet = λ texts asked n. refl
 quiet_lists (ops.Refuse at number) side quiet = absurd (true≢false (sym quiet))
 
 -- nor does a request for a block, or a free
-pub malloc_lists : (op : Op) (side : Side) (letter : _) (name : _) (size : ℕ) → op ≡ ops.Malloc letter name size → ListsNone op side
+pub malloc_lists : (op : Op) (side : Side) (letter : _) (name : _) (size : ℕ) → op ≡ ops.Malloc letter name size
+    → ListsNone op side
 malloc_lists op side letter name size is = subst (λ (o : Op). ListsNone o side) (sym is) (λ texts asked n. refl)
 
-pub calloc_lists : (op : Op) (side : Side) (letter : _) (name : _) (count size : ℕ) → op ≡ ops.Calloc letter name count size → ListsNone op side
+pub calloc_lists : (op : Op) (side : Side) (letter : _) (name : _) (count size : ℕ)
+    → op ≡ ops.Calloc letter name count size → ListsNone op side
 calloc_lists op side letter name count size is = subst (λ (o : Op). ListsNone o side) (sym is) (λ texts asked n. refl)
 
-pub realloc_lists : (op : Op) (side : Side) (letter : _) (name : _) (size : ℕ) → op ≡ ops.Realloc letter name size → ListsNone op side
+pub realloc_lists : (op : Op) (side : Side) (letter : _) (name : _) (size : ℕ) → op ≡ ops.Realloc letter name size
+    → ListsNone op side
 realloc_lists op side letter name size is = subst (λ (o : Op). ListsNone o side) (sym is) (λ texts asked n. refl)
 
 pub free_lists : (op : Op) (side : Side) (letter : _) (name : _) → op ≡ ops.Free letter name → ListsNone op side
@@ -83,10 +86,12 @@ free_lists op side letter name is = subst (λ (o : Op). ListsNone o side) (sym i
 
 module _ {S : Type 0} (op : Op) (side : Side) (held held' : List Extent) (old new : SourceView S) where
   -- a source answered, and its plan is as before
-  pub served : (asks refusals : ℕ) → Serves asks refusals held held' old new → ListsNone op side → Asks op side asks refusals held held' old new
+  pub served : (asks refusals : ℕ) → Serves asks refusals held held' old new → ListsNone op side
+      → Asks op side asks refusals held held' old new
   served asks refusals serves none = record {
     answered = serves.answered;
-    plan = λ texts. grows_none (lists side old.asked (Some (action_of texts op))) old.plan new.plan serves.plan (none texts old.asked);
+    plan = λ texts. grows_none (lists side old.asked (Some (action_of texts op))) old.plan new.plan serves.plan
+        (none texts old.asked);
     traded = serves.traded;
   }
 
@@ -94,7 +99,11 @@ module _ {S : Type 0} (op : Op) (side : Side) (held held' : List Extent) (old ne
   pub rested : Rests held held' old new → ListsNone op side → Asks op side 0 0 held held' old new
   rested rests none =
       served 0 0 (record {
-        answered = record { asked = omega (arith, rests.nothing.asked); refused = omega (arith, rests.nothing.refused); heeded = λ one planned. absurd (omega (arith, one)) };
+        answered = record {
+          asked = omega (arith, rests.nothing.asked);
+          refused = omega (arith, rests.nothing.refused);
+          heeded = λ one planned. absurd (omega (arith, one));
+        };
         plan = rests.nothing.plan;
         traded = rests.traded;
       }) none
@@ -104,18 +113,28 @@ no_asks : {S : Type 0} (seen : SourceView S) → AskedNothing seen seen
 no_asks seen = record { asked = refl; refused = refl; plan = refl }
 
 -- nothing happened to a source, while a quiet operation was done
-pub quiet_asks : {S : Type 0} (op : Op) (side : Side) (held held' : List Extent) (seen : SourceView S) → is_quiet op ≡ true → AllIn held seen.out → held' ≡ held → Asks op side 0 0 held held' seen seen
+pub quiet_asks : {S : Type 0} (op : Op) (side : Side) (held held' : List Extent) (seen : SourceView S)
+    → is_quiet op ≡ true → AllIn held seen.out → held' ≡ held → Asks op side 0 0 held held' seen seen
 quiet_asks op side held held' seen quiet were same =
-    rested op side held held' seen seen (record { nothing = no_asks seen; traded = traded_nothing held held' seen seen were refl refl same refl }) (quiet_lists op side quiet)
+    rested op side held held' seen seen
+    (record { nothing = no_asks seen; traded = traded_nothing held held' seen seen were refl refl same refl })
+    (quiet_lists op side quiet)
 
 module _ {S : Type 0} (op : Op) (held : List Extent) (old new : SourceView S) (were : AllIn held old.out) where
   -- a refusal is listed, of this side or of the other
-  pub told_asks : (side other : Side) (k : ℕ) → op ≡ ops.Refuse other k → new ≡ told_where side other k old → Asks op side 0 0 held held old new
+  pub told_asks : (side other : Side) (k : ℕ) → op ≡ ops.Refuse other k → new ≡ told_where side other k old
+      → Asks op side 0 0 held held old new
   told_asks side other k is was =
-      subst (λ (o : Op). Asks o side 0 0 held held old new) (sym is) (subst (Asks (ops.Refuse other k) side 0 0 held held old) (sym was) (by side other))
+      subst (λ (o : Op). Asks o side 0 0 held held old new) (sym is)
+      (subst (Asks (ops.Refuse other k) side 0 0 held held old) (sym was) (by side other))
     where
       none_asked : (now : SourceView S) → now.asked ≡ old.asked → now.refused ≡ old.refused → Answered 0 0 old now
-      none_asked now asked refused = record { asked = omega (arith, asked); refused = omega (arith, refused); heeded = λ one planned. absurd (omega (arith, one)) }
+      none_asked now asked refused =
+          record {
+            asked = omega (arith, asked);
+            refused = omega (arith, refused);
+            heeded = λ one planned. absurd (omega (arith, one));
+          }
 
       by : (side other : Side) → Asks (ops.Refuse other k) side 0 0 held held old (told_where side other k old)
       by sides.Arena sides.Arena = record {
@@ -147,13 +166,17 @@ module _ {S : Type 0} (held : List Extent) (old new : SourceView S) (were : AllI
 
   -- nothing happened
   pub nothing_fails : Fails held old new
-  nothing_fails = subst (Fails held old) (sym same) (record { once = unrefused_once old old (unrefused_nothing old old (no_asks old)); traded = nothing_traded })
+  nothing_fails = subst (Fails held old) (sym same)
+      (record { once = unrefused_once old old (unrefused_nothing old old (no_asks old)); traded = nothing_traded })
 
   pub nothing_fails_unrefused : FailsUnrefused held old new
-  nothing_fails_unrefused = subst (FailsUnrefused held old) (sym same) (record { once = unrefused_nothing old old (no_asks old); traded = nothing_traded })
+  nothing_fails_unrefused =
+      subst (FailsUnrefused held old) (sym same)
+      (record { once = unrefused_nothing old old (no_asks old); traded = nothing_traded })
 
 -- no source refused, and none was asked
-pub nothing_passed : (arenas arenas' : SourceView ArenaShape) (raws raws' : SourceView ℕ) → arenas' ≡ arenas → raws' ≡ raws → IsPassedOn arenas arenas' raws raws'
+pub nothing_passed : (arenas arenas' : SourceView ArenaShape) (raws raws' : SourceView ℕ) → arenas' ≡ arenas
+    → raws' ≡ raws → IsPassedOn arenas arenas' raws raws'
 nothing_passed arenas arenas' raws raws' first second =
     omega (arith, ap (λ (s : SourceView ArenaShape). s.refused) first, ap (λ (s : SourceView ℕ). s.asked) second)
 
@@ -164,21 +187,38 @@ on_err (Err e) p = p
 -- ---- what is held stays held
 
 -- the same regions are held
-pub held_the_same : (old new : StoreView) (arenas : SourceView ArenaShape) (raws : SourceView ℕ) → HoldsTheSame old new → AreHeld old arenas raws → AreHeld new arenas raws
+pub held_the_same : (old new : StoreView) (arenas : SourceView ArenaShape) (raws : SourceView ℕ)
+    → HoldsTheSame old new → AreHeld old arenas raws → AreHeld new arenas raws
 held_the_same old new arenas raws same held =
-    subst (λ (l : List Extent). AreOut l new.raws arenas raws) (sym same.arenas) (subst (λ (l : List Extent). AreOut old.arenas l arenas raws) (sym same.raws) held)
+    subst (λ (l : List Extent). AreOut l new.raws arenas raws) (sym same.arenas)
+    (subst (λ (l : List Extent). AreOut old.arenas l arenas raws) (sym same.raws) held)
 
 -- a source was told to refuse a request
-pub held_told : (s : StoreView) (side : Side) (k : ℕ) (arenas arenas' : SourceView ArenaShape) (raws raws' : SourceView ℕ) → AreHeld s arenas raws
+pub held_told : (s : StoreView) (side : Side) (k : ℕ) (arenas arenas' : SourceView ArenaShape)
+    (raws raws' : SourceView ℕ) → AreHeld s arenas raws
     → arenas' ≡ told_where sides.Arena side k arenas → raws' ≡ told_where sides.Raw side k raws → AreHeld s arenas' raws'
 held_told s side k arenas arenas' raws raws' held first second =
-    subst (λ (a : SourceView ArenaShape). AreHeld s a raws') (sym first) (subst (AreHeld s (told_where sides.Arena side k arenas)) (sym second) (by side))
+    subst (λ (a : SourceView ArenaShape). AreHeld s a raws') (sym first)
+    (subst (AreHeld s (told_where sides.Arena side k arenas)) (sym second) (by side))
   where
     by : (side : Side) → AreHeld s (told_where sides.Arena side k arenas) (told_where sides.Raw side k raws)
-    by sides.Arena = record { arenas_out = held.arenas_out; arenas_in = held.arenas_in; raws_out = held.raws_out; raws_in = held.raws_in; windows = held.windows }
-    by sides.Raw = record { arenas_out = held.arenas_out; arenas_in = held.arenas_in; raws_out = held.raws_out; raws_in = held.raws_in; windows = held.windows }
+    by sides.Arena = record {
+      arenas_out = held.arenas_out;
+      arenas_in = held.arenas_in;
+      raws_out = held.raws_out;
+      raws_in = held.raws_in;
+      windows = held.windows;
+    }
+    by sides.Raw = record {
+      arenas_out = held.arenas_out;
+      arenas_in = held.arenas_in;
+      raws_out = held.raws_out;
+      raws_in = held.raws_in;
+      windows = held.windows;
+    }
 
 -- and it was not, for want of memory
-pub held_untold : (s : StoreView) (arenas arenas' : SourceView ArenaShape) (raws raws' : SourceView ℕ) → AreHeld s arenas raws → arenas' ≡ arenas → raws' ≡ raws → AreHeld s arenas' raws'
+pub held_untold : (s : StoreView) (arenas arenas' : SourceView ArenaShape) (raws raws' : SourceView ℕ)
+    → AreHeld s arenas raws → arenas' ≡ arenas → raws' ≡ raws → AreHeld s arenas' raws'
 held_untold s arenas arenas' raws raws' held first second =
     subst (λ (a : SourceView ArenaShape). AreHeld s a raws') (sym first) (subst (AreHeld s arenas) (sym second) held)

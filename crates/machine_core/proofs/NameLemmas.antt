@@ -1,6 +1,6 @@
 -- What is held by number is held by name.
-use Rattle.std.proofs.Common.{◌≡◌, ℕ, zero, suc, ◌+◌, ◌<◌, List, [], ◌∷◌, length, get_or, slice_get, set}
-use Rattle.std.proofs.Common.{Option, Some, None, sym, ap, refl, ◌∙◌, arith, length-set, inl, inr}
+use Rattle.std.proofs.Common.{◌≡◌, ℕ, zero, suc, ◌+◌, ◌<◌, List, [], ◌∷◌, length, get_or, slice_get, set, Option}
+use Rattle.std.proofs.Common.{Some, None, sym, ap, refl, ◌∙◌, arith, length-set, inl, inr}
 use Rattle.std.specs.Prelude.{unwrap_or, sum_by}
 use Rattle.std.proofs.lemmas.Bool.Decides.{eqb_tells}
 use Rattle.std.proofs.lemmas.List.Sums.{sum_by-cons}
@@ -20,10 +20,12 @@ some_at (t ∷ ts) zero lt = refl
 some_at (t ∷ ts) (suc i) lt = some_at ts i (omega arith)
 
 -- what a number has is what its name holds
-pub name_holds : (texts : List Name) (slots : List (Option Block)) (bs : Blocks) (name : TextId) → Holds texts slots bs → name.0 < length slots → find bs (text_at texts name) ≡ get_or slots name.0 None
+pub name_holds : (texts : List Name) (slots : List (Option Block)) (bs : Blocks) (name : TextId)
+    → Holds texts slots bs → name.0 < length slots → find bs (text_at texts name) ≡ get_or slots name.0 None
 name_holds texts slots bs name holds lt =
     let e : Some (find bs (text_at texts name)) ≡ Some (get_or slots name.0 None) =
-    sym (holds.each name.0 (text_at texts name) (some_at texts name.0 (omega (arith, lt, holds.size)))) ∙ slice_get-get_or slots name.0 None lt in
+    sym (holds.each name.0 (text_at texts name) (some_at texts name.0 (omega (arith, lt, holds.size))))
+    ∙ slice_get-get_or slots name.0 None lt in
     cc
 
 get-set_same : (slots : List (Option Block)) (i : ℕ) (o : Option Block) → i < length slots → slice_get (set slots i o) i ≡ Some o
@@ -31,14 +33,16 @@ get-set_same [] i o lt = absurd (omega arith)
 get-set_same (s ∷ ss) zero o lt = refl
 get-set_same (s ∷ ss) (suc i) o lt = get-set_same ss i o (omega arith)
 
-get-set_other : (slots : List (Option Block)) (i j : ℕ) (o : Option Block) → (i ≡ j → ⊥) → slice_get (set slots i o) j ≡ slice_get slots j
+get-set_other : (slots : List (Option Block)) (i j : ℕ) (o : Option Block) → (i ≡ j → ⊥)
+    → slice_get (set slots i o) j ≡ slice_get slots j
 get-set_other [] i j o ne = refl
 get-set_other (s ∷ ss) zero zero o ne = absurd (ne refl)
 get-set_other (s ∷ ss) zero (suc j) o ne = refl
 get-set_other (s ∷ ss) (suc i) zero o ne = refl
 get-set_other (s ∷ ss) (suc i) (suc j) o ne = get-set_other ss i j o (λ e. ne (ap suc e))
 
-sum_set : (f : Option Block → ℕ) (slots : List (Option Block)) (i : ℕ) (old o : Option Block) → slice_get slots i ≡ Some old → sum_by f (set slots i o) + f old ≡ sum_by f slots + f o
+sum_set : (f : Option Block → ℕ) (slots : List (Option Block)) (i : ℕ) (old o : Option Block)
+    → slice_get slots i ≡ Some old → sum_by f (set slots i o) + f old ≡ sum_by f slots + f o
 sum_set f [] i old o is = absurd cc
 sum_set f (s ∷ ss) zero old o is =
     let e : s ≡ old = cc in
@@ -47,7 +51,8 @@ sum_set f (s ∷ ss) zero old o is =
 sum_set f (s ∷ ss) (suc i) old o is = omega (arith, sum_set f ss i old o is, sum_by-cons f s ss, sum_by-cons f s (set ss i o))
 
 -- one number is given another block, and so is its name
-pub hold_holds : (texts : List Name) (slots : List (Option Block)) (bs : Blocks) (name : TextId) (o : Option Block) → IsDistinct texts → Holds texts slots bs → name.0 < length slots
+pub hold_holds : (texts : List Name) (slots : List (Option Block)) (bs : Blocks) (name : TextId) (o : Option Block)
+    → IsDistinct texts → Holds texts slots bs → name.0 < length slots
     → Holds texts (set slots name.0 o) (hold bs (text_at texts name) o)
 hold_holds texts slots bs name o distinct holds lt =
     let n = text_at texts name in
@@ -59,11 +64,18 @@ hold_holds texts slots bs name o distinct holds lt =
         | inl here ↦
             let e : Some n ≡ Some other = sym at ∙ ap (slice_get texts) here.1 ∙ is in
             let named : n ≡ other = cc in
-            ap (slice_get (set slots name.0 o)) (sym here.1) ∙ get-set_same slots name.0 o lt ∙ ap Some (sym (find-hold_same bs n o) ∙ ap (find (hold bs n o)) named)
+            ap (slice_get (set slots name.0 o)) (sym here.1) ∙ get-set_same slots name.0 o lt
+            ∙ ap Some (sym (find-hold_same bs n o) ∙ ap (find (hold bs n o)) named)
         | inr away ↦
             get-set_other slots name.0 i o away.1 ∙ holds.each i other is
             ∙ ap Some (sym (find-hold_other bs n other o (λ e. away.1 (distinct name.0 i other (at ∙ ap Some (sym e)) is))))
       ];
       distinct = hold_distinct bs n o holds.distinct;
-      sums = λ f none. omega (arith, sum_hold f bs n o none holds.distinct, holds.sums f none, sum_set f slots name.0 (find bs n) o old);
+      sums = λ f none. omega (
+        arith,
+        sum_hold f bs n o none holds.distinct,
+        holds.sums f none,
+        sum_set f slots
+            name.0 (find bs n) o old,
+      );
     }

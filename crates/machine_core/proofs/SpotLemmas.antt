@@ -46,9 +46,20 @@ same_spots a b spots many pieces regions same are = record {
 
 -- what contracts see of these fields
 abbrev pub view_of : Trace → List Entry → List ℕ → Holding → MachineView
-view_of trace es picks now = record { trace = trace; entries = es; picks = picks; arenas = now.store.arenas; raws = now.store.raws; pieces = now.store.pieces }
+view_of trace es picks now =
+    record {
+      trace = trace;
+      entries = es;
+      picks = picks;
+      arenas = now.store.arenas;
+      raws = now.store.raws;
+      pieces = now.store.pieces;
+    }
 
-pub spots_are : (picks : List ℕ) (trace : Trace) (es : List Entry) (now : Holding) (progress : Progress) (faulted : _) → Stands trace es now progress faulted → (spots : List Spot) → AreSpots (living now.store) spots → AreSpots (living_in (view_of trace es picks now)) spots
+pub spots_are : (picks : List ℕ) (trace : Trace) (es : List Entry) (now : Holding) (progress : Progress)
+    (faulted : _) → Stands trace es now progress faulted → (spots : List Spot) → AreSpots (living now.store) spots
+    → AreSpots (living_in (view_of trace es picks now)) spots
 spots_are picks trace es now progress faulted stands spots are =
     same_spots (living now.store) (living_in (view_of trace es picks now)) spots (sym stands.held.blocks.size) refl refl
-    (λ name lt. name_holds trace.texts now.store.blocks (last_state (plain trace).tracks es).held.blocks name stands.held.blocks lt) are
+    (λ name lt. name_holds trace.texts now.store.blocks (last_state (plain trace).tracks es).held.blocks name
+    stands.held.blocks lt) are

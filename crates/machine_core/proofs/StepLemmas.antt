@@ -1,7 +1,7 @@
 -- One event more: the state, and that the history stays legal.
-use Rattle.std.proofs.Common.{◌≡◌, ℕ, zero, suc, ◌+◌, ◌-◌, ◌^◌, ◌<◌, ◌≤◌, Bool, true, false, cond, List, []}
-use Rattle.std.proofs.Common.{◌∷◌, ◌++◌, length, get_or, slice_get, set, map, take, Option, Some, None, refl}
-use Rattle.std.proofs.Common.{sym, ap, subst, ◌∙◌, arith, length-append, replicate}
+use Rattle.std.proofs.Common.{◌≡◌, ℕ, zero, suc, ◌+◌, ◌-◌, ◌^◌, ◌<◌, ◌≤◌, Bool, true, false, cond, List, [], ◌∷◌}
+use Rattle.std.proofs.Common.{◌++◌, length, get_or, slice_get, set, map, take, Option, Some, None, refl, sym, ap}
+use Rattle.std.proofs.Common.{subst, ◌∙◌, arith, length-append, replicate}
 use Rattle.std.specs.Prelude.{slice_index, IfSome, IfNone, sum_by}
 use Rattle.std.specs.Option.{option_map, option_and_then}
 use Rattle.std.proofs.lemmas.Option.{slice_get_within, slice_get-map, slice_get-get_or, slice_get_past}
@@ -60,7 +60,8 @@ tracks trace = (plain trace).tracks
 
 -- ---- what a settled event leaves
 
-module _ (texts : List Name) (ts : List PlainTrack) (t : ℕ) (s : State) (r : Held × PlainReply) (done : List ℕ) (done_is : done ≡ s.done) (sound : s.faulted ≡ false) where
+module _ (texts : List Name) (ts : List PlainTrack) (t : ℕ) (s : State) (r : Held × PlainReply) (done : List ℕ)
+    (done_is : done ≡ s.done) (sound : s.faulted ≡ false) where
   abbrev next_done : List ℕ
   next_done = set done t (slice_index done t + 1)
 
@@ -68,7 +69,8 @@ module _ (texts : List Name) (ts : List PlainTrack) (t : ℕ) (s : State) (r : H
   abbrev settled : Bool → State
   settled b = cond b (record s { faulted = true }) (advance ts t s r.0)
 
-  settled_held : (b : Bool) (new : Holding) (owner : Option ℕ) → StandsFor texts new (cond b s.held r.0) → owner ≡ cond b new.owner (let_go ts t (slice_index done t + 1) new.owner)
+  settled_held : (b : Bool) (new : Holding) (owner : Option ℕ) → StandsFor texts new (cond b s.held r.0)
+      → owner ≡ cond b new.owner (let_go ts t (slice_index done t + 1) new.owner)
       → StandsFor texts (record new { owner = owner }) (settled b).held
   settled_held true new owner stands owned = record {
     blocks = stands.blocks;
@@ -97,7 +99,8 @@ module _ (texts : List Name) (ts : List PlainTrack) (t : ℕ) (s : State) (r : H
 
 -- what is known before an event: the operation that comes next
 module _ (trace : Trace) (es : List Entry) (old : Holding) (progress : Progress) (faulted : Bool) (t at : ℕ) (op : Op)
-    (stands : Stands trace es old progress faulted) (here : at ≡ get_or progress.done.items t at) (is_op : op_at trace.tracks t at ≡ Some op) where
+    (stands : Stands trace es old progress faulted) (here : at ≡ get_or progress.done.items t at)
+    (is_op : op_at trace.tracks t at ≡ Some op) where
   abbrev now : State
   now = last_state (tracks trace) es
 
@@ -115,7 +118,8 @@ module _ (trace : Trace) (es : List Entry) (old : Holding) (progress : Progress)
 
   pub here_is : at ≡ slice_index done t
   here_is =
-      let e : Some (get_or done t at) ≡ Some (get_or done t 0) = sym (slice_get-get_or done t at within) ∙ slice_get-get_or done t 0 within in
+      let e : Some (get_or done t at) ≡ Some (get_or done t 0) =
+      sym (slice_get-get_or done t at within) ∙ slice_get-get_or done t 0 within in
       let same : get_or done t at ≡ get_or done t 0 = cc in
       here ∙ same
 
@@ -123,20 +127,26 @@ module _ (trace : Trace) (es : List Entry) (old : Holding) (progress : Progress)
   index_is = here_is ∙ ap (λ (d : List ℕ). slice_index d t) stands.done_is
 
   pub next_is : next_action (tracks trace) now t ≡ Some (action_of trace.texts op)
-  next_is = ap (action_after (tracks trace) t) (sym index_is) ∙ action_is trace.texts trace.tracks t at ∙ ap (option_map (action_of trace.texts)) is_op
+  next_is = ap (action_after (tracks trace) t) (sym index_is) ∙ action_is trace.texts trace.tracks t at
+      ∙ ap (option_map (action_of trace.texts)) is_op
 
   -- what a source was asked, by the entry
-  pub requests_are : {S : Type 0} (side : Side) (e : Entry) (asks refusals : ℕ) (held held_then : List Extent) (before after : SourceView S) → e.track ≡ t → asks ≡ asks_in side e → refusals ≡ refusals_in side e
+  pub requests_are : {S : Type 0} (side : Side) (e : Entry) (asks refusals : ℕ) (held held_then : List Extent)
+      (before after : SourceView S) → e.track ≡ t → asks ≡ asks_in side e → refusals ≡ refusals_in side e
       → Asks op side asks refusals held held_then before after → Requests side trace es e held held_then before after
   requests_are {S} side e asks refusals held held_then before after its_track its_asks its_refusals asked = record {
-    answered = subst (λ (n : ℕ). Answered n (refusals_in side e) before after) its_asks (subst (λ (n : ℕ). Answered asks n before after) its_refusals asked.answered);
-    plan = subst (λ (u : ℕ). GrowsBy (lists side before.asked (next_action (tracks trace) now u)) before.plan after.plan) (sym its_track)
-        (subst (λ (a : Option Action). GrowsBy (lists side before.asked a) before.plan after.plan) (sym next_is) (asked.plan trace.texts));
+    answered = subst (λ (n : ℕ). Answered n (refusals_in side e) before after) its_asks
+        (subst (λ (n : ℕ). Answered asks n before after) its_refusals asked.answered);
+    plan = subst (λ (u : ℕ). GrowsBy (lists side before.asked (next_action (tracks trace) now u)) before.plan
+        after.plan) (sym its_track)
+        (subst (λ (a : Option Action). GrowsBy (lists side before.asked a) before.plan after.plan) (sym next_is)
+        (asked.plan trace.texts));
     traded = asked.traded;
   }
 
   -- what the operation did, and the entry that is kept of it
-  module _ (e : Entry) (its_track : e.track ≡ t) (new : Holding) (reply : Reply) (acts : Acts t op old new (record { arena = e.arena; raw = e.raw }) reply) where
+  module _ (e : Entry) (its_track : e.track ≡ t) (new : Holding) (reply : Reply)
+      (acts : Acts t op old new (record { arena = e.arena; raw = e.raw }) reply) where
     abbrev turn : Held × PlainReply
     turn = act now.held t (action_of trace.texts op) e.arena e.raw
 
@@ -161,8 +171,10 @@ module _ (trace : Trace) (es : List Entry) (old : Holding) (progress : Progress)
         no_fault = no_fault;
         ready = ap (is_ready (tracks trace) now) its_track ∙ ready;
         at = its_index ∙ index_is ∙ ap (slice_index now.done) (sym its_track);
-        fits = subst (λ (u : ℕ). FitsRequest now.held.layout (next_request now.held u (next_action (tracks trace) now u)) e.arena e.raw) (sym its_track)
-            (subst (λ (a : Option Action). FitsRequest now.held.layout (next_request now.held t a) e.arena e.raw) (sym next_is) did.fits);
+        fits = subst (λ (u : ℕ). FitsRequest now.held.layout
+            (next_request now.held u (next_action (tracks trace) now u)) e.arena e.raw) (sym its_track)
+            (subst (λ (a : Option Action). FitsRequest now.held.layout (next_request now.held t a) e.arena e.raw)
+            (sym next_is) did.fits);
       }
 
       then_is : last_state (tracks trace) (es ++ e ∷ []) ≡ settle (tracks trace) t now turn
@@ -170,13 +182,15 @@ module _ (trace : Trace) (es : List Entry) (old : Holding) (progress : Progress)
 
       module _ (fault : Bool) (fell : (texts : List Name) → fault ≡ is_fault (plain_reply texts reply))
           (owner' : Option ℕ) (owned : owner' ≡ cond fault new.owner (let_go (tracks trace) t (slice_index done t + 1) new.owner))
-          (stacked : length new.callers.frames ≡ length old.callers.frames) (progress' : Progress) (did_one : progress'.done.items ≡ cond fault done (set done t (slice_index done t + 1)))
+          (stacked : length new.callers.frames ≡ length old.callers.frames) (progress' : Progress)
+          (did_one : progress'.done.items ≡ cond fault done (set done t (slice_index done t + 1)))
           (is : IsProgress trace progress') where
         its_fault : fault ≡ is_fault turn.1
         its_fault = fell trace.texts ∙ ap is_fault did.answer
 
         -- the state then, by whether a fault came
-        after_is : last_state (tracks trace) (es ++ e ∷ []) ≡ settled trace.texts (tracks trace) t now turn done stands.done_is no_fault fault
+        after_is : last_state (tracks trace) (es ++ e ∷ []) ≡ settled trace.texts (tracks trace) t now turn done
+            stands.done_is no_fault fault
         after_is = then_is ∙ ap (settled trace.texts (tracks trace) t now turn done stands.done_is no_fault) (sym its_fault)
 
         pub stands_then : Stands trace (es ++ e ∷ []) (record new { owner = owner' }) progress' fault
@@ -189,8 +203,10 @@ module _ (trace : Trace) (es : List Entry) (old : Holding) (progress : Progress)
               (settled_held trace.texts (tracks trace) t now turn done stands.done_is no_fault fault new owner'
               (subst (λ (b : Bool). StandsFor trace.texts new (cond b now.held turn.0)) (sym its_fault) did.held) owned);
           stacks = stacked ∙ stands.stacks;
-          done_is = did_one ∙ settled_done trace.texts (tracks trace) t now turn done stands.done_is no_fault fault ∙ ap (λ (s : State). s.done) (sym after_is);
-          fault_is = settled_fault trace.texts (tracks trace) t now turn done stands.done_is no_fault fault ∙ ap (λ (s : State). s.faulted) (sym after_is);
+          done_is = did_one ∙ settled_done trace.texts (tracks trace) t now turn done stands.done_is no_fault fault
+              ∙ ap (λ (s : State). s.done) (sym after_is);
+          fault_is = settled_fault trace.texts (tracks trace) t now turn done stands.done_is no_fault fault
+              ∙ ap (λ (s : State). s.faulted) (sym after_is);
         }
 
 -- ---- a machine at the start
@@ -203,7 +219,8 @@ none_at zero i lt = absurd (omega arith)
 none_at (suc n) zero lt = refl
 none_at (suc n) (suc i) lt = none_at n i (omega arith)
 
-zeros_are : (texts : List Name) (ts : List Track) → replicate {A = ℕ} (length ts) 0 ≡ map (λ (t : PlainTrack). 0) (tracks_of texts ts)
+zeros_are : (texts : List Name) (ts : List Track)
+    → replicate {A = ℕ} (length ts) 0 ≡ map (λ (t : PlainTrack). 0) (tracks_of texts ts)
 zeros_are texts [] = refl
 zeros_are texts (t ∷ ts) = ap (λ (l : List ℕ). 0 ∷ l) (zeros_are texts ts)
 
@@ -211,7 +228,8 @@ no_sum : (f : Option Block → ℕ) → f None ≡ 0 → (n : ℕ) → sum_by f 
 no_sum f none zero = refl
 no_sum f none (suc n) = omega (arith, none, no_sum f none n, sum_by-cons f none_held (replicate n none_held))
 
-no_frames : (texts : List Name) (ts : List Track) → map {A = PlainTrack} (λ t. []) (tracks_of texts ts) ≡ map (frames_of texts) (replicate (length ts) [])
+no_frames : (texts : List Name) (ts : List Track)
+    → map {A = PlainTrack} (λ t. []) (tracks_of texts ts) ≡ map (frames_of texts) (replicate (length ts) [])
 no_frames texts [] = refl
 no_frames texts (t ∷ ts) = ap (λ (l : List (List PlainFrame)). [] ∷ l) (no_frames texts ts)
 
@@ -220,13 +238,19 @@ abbrev pub opening_callers : Trace → CallersView
 opening_callers trace = record { files = length trace.texts; frames = replicate (length trace.tracks) []; table = [] }
 
 -- nothing is held, and nothing was done
-pub opening_stands : (trace : Trace) (es : List Entry) (s : StoreView) (c : CallersView) (tracing : TracingView) (progress : Progress) → IsTable trace.texts → IsKnownTrace trace → es ≡ []
+pub opening_stands : (trace : Trace) (es : List Entry) (s : StoreView) (c : CallersView) (tracing : TracingView)
+    (progress : Progress) → IsTable trace.texts → IsKnownTrace trace → es ≡ []
     → s ≡ empty_store (length trace.texts) → c ≡ opening_callers trace → IsIdle tracing
-    → progress.done.items ≡ replicate {A = ℕ} (length trace.tracks) 0 → IsProgress trace progress → Stands trace es (record { store = s; owner = None; callers = c; tracing = tracing }) progress false
+    → progress.done.items ≡ replicate {A = ℕ} (length trace.tracks) 0 → IsProgress trace progress
+    → Stands trace es (record { store = s; owner = None; callers = c; tracing = tracing }) progress false
 opening_stands trace es s c tracing progress table known empty opened called idle zeros is =
-    subst (λ (x : List Entry). Stands trace x (record { store = s; owner = None; callers = c; tracing = tracing }) progress false) (sym empty)
-    (subst (λ (v : StoreView). Stands trace [] (record { store = v; owner = None; callers = c; tracing = tracing }) progress false) (sym opened)
-    (subst (λ (v : CallersView). Stands trace [] (record { store = empty_store (length trace.texts); owner = None; callers = v; tracing = tracing }) progress false) (sym called) (record {
+    subst (λ (x : List Entry). Stands trace x (record { store = s; owner = None; callers = c; tracing = tracing })
+    progress false) (sym empty)
+    (subst (λ (v : StoreView). Stands trace [] (record { store = v; owner = None; callers = c; tracing = tracing })
+    progress false) (sym opened)
+    (subst (λ (v : CallersView). Stands trace []
+    (record { store = empty_store (length trace.texts); owner = None; callers = v; tracing = tracing }) progress
+    false) (sym called) (record {
       legal = tt;
       table = table;
       known = known;
@@ -252,14 +276,16 @@ opening_stands trace es s c tracing progress table known empty opened called idl
 -- ---- all as it was
 
 -- what an operation needs of what is held
-pub sound_is : (trace : Trace) (es : List Entry) (now : Holding) (progress : Progress) (faulted : Bool) → Stands trace es now progress faulted → IsSound now
+pub sound_is : (trace : Trace) (es : List Entry) (now : Holding) (progress : Progress) (faulted : Bool)
+    → Stands trace es now progress faulted → IsSound now
 sound_is trace es now progress faulted stands = record {
   files = stands.held.files ∙ sym stands.held.blocks.size;
   numbered = λ name lt. (stands.held.traces.each (keys.Block name) (omega (arith, lt, stands.held.blocks.size))).numbered;
 }
 
 -- memory ran out, and all is as it was
-pub stands_still : (trace : Trace) (es : List Entry) (old new : Holding) (progress : Progress) (faulted : Bool) → IsAsItWas old new → Stands trace es old progress faulted → Stands trace es new progress faulted
+pub stands_still : (trace : Trace) (es : List Entry) (old new : Holding) (progress : Progress) (faulted : Bool)
+    → IsAsItWas old new → Stands trace es old progress faulted → Stands trace es new progress faulted
 stands_still trace es old new progress faulted same stands = record {
   legal = stands.legal;
   table = stands.table;
@@ -274,15 +300,19 @@ stands_still trace es old new progress faulted same stands = record {
 -- ---- who is ready
 
 -- there is no track past the last
-pub none_past : (trace : Trace) (owner : Option ℕ) (t at : ℕ) → length trace.tracks ≤ t → may_do owner t (action_after (tracks trace) t at) ≡ false
+pub none_past : (trace : Trace) (owner : Option ℕ) (t at : ℕ) → length trace.tracks ≤ t
+    → may_do owner t (action_after (tracks trace) t at) ≡ false
 none_past trace owner t at past =
     ap (λ (o : Option PlainTrack). may_do owner t (option_and_then (λ track. slice_get track.actions at) o))
-    (slice_get-map (track_of trace.texts) trace.tracks t ∙ ap (option_map (track_of trace.texts)) (slice_get_past trace.tracks t past))
+    (slice_get-map (track_of trace.texts) trace.tracks t
+    ∙ ap (option_map (track_of trace.texts)) (slice_get_past trace.tracks t past))
 
 -- the fields tell who is ready
-pub ready_is : (trace : Trace) (es : List Entry) (now : Holding) (progress : Progress) (faulted : Bool) → Stands trace es now progress faulted → (t : ℕ)
+pub ready_is : (trace : Trace) (es : List Entry) (now : Holding) (progress : Progress) (faulted : Bool)
+    → Stands trace es now progress faulted → (t : ℕ)
     → is_ready_now trace now.owner progress.done.items t ≡ is_ready (tracks trace) (last_state (tracks trace) es) t
-ready_is trace es old progress faulted stands t = λ i. may_do (stands.held.owner i) t (action_after (tracks trace) t (slice_index (stands.done_is i) t))
+ready_is trace es old progress faulted stands t =
+    λ i. may_do (stands.held.owner i) t (action_after (tracks trace) t (slice_index (stands.done_is i) t))
 
 pub some_weaker : {A : Type 0} (o : Option A) (P Q : A → Type 0) → ((a : A) → P a → Q a) → IfSome o P → IfSome o Q
 some_weaker None P Q f h = tt
@@ -308,20 +338,35 @@ redone xs ys zs x y pushed put =
 pub popped : {A : Type 0} (xs ys zs : List A) (x : A) → ys ≡ xs ++ x ∷ [] → zs ≡ take (length ys - 1) ys → zs ≡ xs
 popped xs ys zs x pushed taken =
     let shorter : length (xs ++ x ∷ []) - 1 ≡ length xs = omega (arith, length-append xs (x ∷ [])) in
-    taken ∙ ap (λ (l : List _). take (length l - 1) l) pushed ∙ ap (λ (n : ℕ). take n (xs ++ x ∷ [])) shorter ∙ take_at xs (x ∷ []) (length xs) refl
+    taken ∙ ap (λ (l : List _). take (length l - 1) l) pushed ∙ ap (λ (n : ℕ). take n (xs ++ x ∷ [])) shorter
+    ∙ take_at xs (x ∷ []) (length xs) refl
 
 -- ---- there are few events
 
 op_counts : (texts : List Name) (ts : List Track) → action_count (tracks_of texts ts) ≡ op_count ts
 op_counts texts [] = refl
 op_counts texts (t ∷ ts) =
-    omega (arith, op_counts texts ts, sum_by-cons (λ (x : PlainTrack). length x.actions) (track_of texts t) (tracks_of texts ts), sum_by-cons (λ (x : Track). length x.ops) t ts, length-map t.ops (action_of texts))
+    omega (
+      arith,
+      op_counts texts ts,
+      sum_by-cons (λ (x : PlainTrack). length x.actions) (track_of texts t)
+          (tracks_of texts ts),
+      sum_by-cons (λ (x : Track). length x.ops) t ts,
+      length-map t.ops (action_of texts),
+    )
 
 -- few enough arenas were granted and pools taken to number one more
-pub few_taken : (trace : Trace) (es : List Entry) (now : Holding) (progress : Progress) (faulted : Bool) → Stands trace es now progress faulted → (now.store.layout.given + 1 < 2 ^ 32) × (length now.store.layout.full < 2 ^ 63)
+pub few_taken : (trace : Trace) (es : List Entry) (now : Holding) (progress : Progress) (faulted : Bool)
+    → Stands trace es now progress faulted → (now.store.layout.given + 1 < 2 ^ 32)
+    × (length now.store.layout.full < 2 ^ 63)
 few_taken trace es old progress faulted stands =
     let few = few_taken_in (tracks trace) es in
     let short = legal_short (tracks trace) es stands.legal in
-    let given : old.store.layout.given ≡ (last_state (tracks trace) es).held.layout.given = ap (λ (l : Layout). l.given) stands.held.layout in
-    let full : length old.store.layout.full ≡ length (last_state (tracks trace) es).held.layout.full = ap (λ (l : Layout). length l.full) stands.held.layout in
-    (omega (arith, few.0, short, given, op_counts trace.texts trace.tracks, stands.known.count), omega (arith, few.1, short, full, op_counts trace.texts trace.tracks, stands.known.count))
+    let given : old.store.layout.given ≡ (last_state (tracks trace) es).held.layout.given =
+    ap (λ (l : Layout). l.given) stands.held.layout in
+    let full : length old.store.layout.full ≡ length (last_state (tracks trace) es).held.layout.full =
+    ap (λ (l : Layout). length l.full) stands.held.layout in (
+      omega (arith, few.0, short, given, op_counts trace.texts trace.tracks, stands.known.count),
+      omega
+          (arith, few.1, short, full, op_counts trace.texts trace.tracks, stands.known.count),
+    )

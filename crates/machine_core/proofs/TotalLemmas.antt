@@ -19,10 +19,20 @@ count_is : (bs : Blocks) → sum_by (λ b. live_in (Some b.1)) bs ≡ length bs
 count_is [] = refl
 count_is (b ∷ bs) = omega (arith, count_is bs, sum_by-cons (λ (x : Name × Block). live_in (Some x.1)) b bs)
 
-pub totals_are : (trace : Trace) (es : List Entry) (now : Holding) (progress : Progress) (faulted : Bool) → Stands trace es now progress faulted
-    → (events : ℕ) → events ≡ length es → (blocks bytes : ℕ) → blocks ≡ sum_by live_in now.store.blocks → bytes ≡ sum_by size_in now.store.blocks → (c : Counts) → c ≡ counts_in now.store
+pub totals_are : (trace : Trace) (es : List Entry) (now : Holding) (progress : Progress) (faulted : Bool)
+    → Stands trace es now progress faulted
+    → (events : ℕ) → events ≡ length es → (blocks bytes : ℕ) → blocks ≡ sum_by live_in now.store.blocks
+    → bytes ≡ sum_by size_in now.store.blocks → (c : Counts) → c ≡ counts_in now.store
     → (traced most : ℕ) → (◌≡◌ {A = ℕ × ℕ} (traced, most) (traced_bytes now.tracing.traces, now.tracing.peak))
-    → record { events = events; owner = now.owner; blocks = blocks; bytes = bytes; counts = c; traced = traced; peak = most } ≡ totals_of (plain trace).tracks es
+    → record {
+      events = events;
+      owner = now.owner;
+      blocks = blocks;
+      bytes = bytes;
+      counts = c;
+      traced = traced;
+      peak = most;
+    } ≡ totals_of (plain trace).tracks es
 totals_are trace es now progress faulted stands events many blocks bytes live sized c counted traced most said =
     let h = (last_state (plain trace).tracks es).held in
     let laid : now.store.layout ≡ h.layout = stands.held.layout in

@@ -64,7 +64,8 @@ is_quiet (ops.Refuse side number) = false
 abbrev pub left_by : Held → Held × PlainReply → Held
 left_by h r = if is_fault r.1 then h else r.0
 
--- an operation of track t came to this: what is held and the reply are those, and the answers fit what it asks for
+-- an operation of track t came to this: what is held and the reply are those, and the answers fit what it asks
+-- for
 pub record CameTo (texts : List Name) (h : Held) (t : ℕ) (op : Op) (asked : Asked) (r : Held × PlainReply)
     (new : Holding) (reply : Reply) : Type 0 where
   pub held : StandsFor texts new (left_by h r)
@@ -73,11 +74,13 @@ pub record CameTo (texts : List Name) (h : Held) (t : ℕ) (op : Op) (asked : As
 
 -- the operation was done, as the definitions say
 abbrev pub Done : List Name → Held → ℕ → Op → Asked → Holding → Reply → Type 0
-Done texts h t op asked = CameTo texts h t op asked (act h t (action_of texts op) asked.arena asked.raw)
+Done texts h t op asked =
+    CameTo texts h t op asked (act h t (action_of texts op) asked.arena asked.raw)
 
 -- it was done but for what is traced
 abbrev pub HasEffect : List Name → Held → ℕ → Op → Asked → Holding → Reply → Type 0
-HasEffect texts h t op asked = CameTo texts h t op asked (effect h t (action_of texts op) asked.arena asked.raw)
+HasEffect texts h t op asked =
+    CameTo texts h t op asked (effect h t (action_of texts op) asked.arena asked.raw)
 
 -- whatever is held by name, the operation of track t was done to it, with these answers of the sources
 abbrev pub Acts : ℕ → Op → Holding → Holding → Asked → Reply → Type 0

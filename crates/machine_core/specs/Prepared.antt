@@ -1,9 +1,8 @@
 -- What is prepared for the trace of an operation's block before a source is asked, and what is made of it.
-use Rattle.std.specs.Prelude.{◌≡◌, ◌⊎◌, ℕ, ◌<◌, ◌≤◌, Bool, true, false, List, length, slice_get, Option, Some}
-use Rattle.std.specs.Prelude.{None, is_some}
+use Rattle.std.specs.Prelude.{◌≡◌, ◌⊎◌, ℕ, ◌<◌, ◌≤◌, Bool, true, false, List, length, slice_get}
+use Rattle.std.specs.Prelude.{Option, Some, None, is_some}
 use Rattle.mem_base.specs.Name.{Name}
 use Rattle.mem_base.specs.declared.reply.Reply.{Reply}
-use Rattle.mem_base.specs.declared.texts.TextId.{TextId}
 use Rattle.mem_base.specs.declared.trace.Op.{Op}
 use Rattle.frame_model.specs.Frames.{recent, total}
 use Rattle.tracing_model.specs.Traces.{of_block}
@@ -23,11 +22,13 @@ use Rattle.machine_core.specs.declared.traces.Prepared.TheVariants as prepared
 
 -- ---- what is prepared
 
--- a trace of so many bytes by track t: the number of as many of its frames as a trace keeps, and how many there are
+-- a trace of so many bytes by track t: the number of those of its frames that a trace keeps, and how many there
+-- are in all
 pub record IsTraceBy (now : Holding) (t size : ℕ) (of : Stored) : Type 0 where
   pub limit : ℕ
   pub limited : now.tracing.limit ≡ Some limit
-  pub kept : slice_get now.callers.table of.trace.0 ≡ Some (recent unknown_frame limit (frames_of now.callers t))
+  pub kept : slice_get now.callers.table of.trace.0
+      ≡ Some (recent unknown_frame limit (frames_of now.callers t))
   pub counted : of.total ≡ total (frames_of now.callers t)
   pub sized : of.size ≡ size
 
@@ -44,7 +45,8 @@ ComesToNothing limit keeps = Unit {0}
 -- this is prepared for the change that an ok of track t makes
 abbrev pub IsPreparedFor : List Name → Holding → ℕ → Prepared → Change → Type 0
 IsPreparedFor texts now t (prepared.Gets name of) change =
-    (change ≡ gets (of_block (text_at texts name)) of.size) × (name.0 < length now.store.blocks) × IsTraceBy now t of.size of
+    (change ≡ gets (of_block (text_at texts name)) of.size)
+    × (name.0 < length now.store.blocks) × IsTraceBy now t of.size of
 IsPreparedFor texts now t (prepared.Forgets name) change =
     (change ≡ forgets (of_block (text_at texts name))) × (name.0 < length now.store.blocks)
 IsPreparedFor texts now t prepared.Nothing change = ComesToNothing now.tracing.limit change

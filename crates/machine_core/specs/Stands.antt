@@ -11,9 +11,9 @@ use Rattle.machine_core.specs.Progress.{IsProgress}
 use Rattle.machine_core.specs.declared.held.Held.{Held as Holding}
 use Rattle.machine_core.specs.declared.progress.Progress.{Progress}
 
--- the history is legal, and the fields stand for the state that it leads to
-pub record Stands (trace : Trace) (entries : List Entry) (now : Holding) (progress : Progress) (faulted : Bool)
-    : Type 0 where
+-- the history is legal, and the fields stand for the state that it leads to; each track has its frames
+pub record Stands (trace : Trace) (entries : List Entry) (now : Holding) (progress : Progress)
+    (faulted : Bool) : Type 0 where
   pub legal : IsLegal (plain trace).tracks entries
   pub table : IsTable trace.texts
   pub known : IsKnownTrace trace

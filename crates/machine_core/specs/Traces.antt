@@ -44,17 +44,17 @@ abbrev pub IsNumbered : List (List Frame) → Option Stored → Type 0
 IsNumbered table of = IfSome of (λ t. t.trace.0 < length table)
 
 -- the key and its name have the same trace or none
-pub record KeyStands (texts : List Name) (table : List (List Frame)) (ts : Traces) (t : Option Tracing) (key : TraceKey)
-    : Type 0 where
+pub record KeyStands (texts : List Name) (table : List (List Frame)) (ts : Traces) (t : Option Tracing)
+    (key : TraceKey) : Type 0 where
   pub named : trace_in t (key_of texts key) ≡ option_map (trace_of texts table) (trace_at ts key)
   pub numbered : IsNumbered table (trace_at ts key)
 
 -- ---- all that is traced
 
--- what is traced by number stands for what is traced by name: the limit, the trace under each key, the sum of all
--- sizes and its peak
-pub record TracesStand (texts : List Name) (table : List (List Frame)) (now : TracingView) (t : Option Tracing)
-    : Type 0 where
+-- what is traced by number stands for what is traced by name: the limit, the trace under each key, the sum of
+-- all sizes and its peak
+pub record TracesStand (texts : List Name) (table : List (List Frame)) (now : TracingView)
+    (t : Option Tracing) : Type 0 where
   pub limit : now.limit ≡ option_map (λ x. x.limit) t
   pub each : (key : TraceKey) → IsKnownKey (length texts) key → KeyStands texts table now.traces t key
   pub bytes : traced_bytes now.traces ≡ traced_now t
@@ -64,4 +64,5 @@ pub record TracesStand (texts : List Name) (table : List (List Frame)) (now : Tr
 
 -- a number means the same frames in a later table
 abbrev pub KeepsNumbers : List (List Frame) → List (List Frame) → Type 0
-KeepsNumbers old new = (i : ℕ) (frames : List Frame) → slice_get old i ≡ Some frames → slice_get new i ≡ Some frames
+KeepsNumbers old new =
+    (i : ℕ) (frames : List Frame) → slice_get old i ≡ Some frames → slice_get new i ≡ Some frames

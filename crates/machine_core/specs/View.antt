@@ -38,7 +38,8 @@ state_of m = last_state (tracks_of m) m.entries
 abbrev pub ready_in : MachineView → ℕ → Bool
 ready_in m t = is_ready (tracks_of m) (state_of m) t
 
--- the histories of a trace differ by one more event, of track t, with its reply, whose files are in the trace's table
+-- the histories of a trace differ by one more event, of track t, with its reply, whose files are in the table of
+-- the trace's texts
 pub record IsEvent (trace : Trace) (old new : List Entry) (t : ℕ) (step : Step) : Type 0 where
   pub track : step.entry.track ≡ t
   pub next : IsNext (plain trace).tracks (last_state (plain trace).tracks old) step.entry

@@ -12,8 +12,8 @@
 //!     callers    track 0: main.py:3 load.py:10       track 1: no frames       tracebacks 0, 1, ..
 //!     tracing    limit 1    name 3: 100 bytes, traceback 1, of 2 frames       sum 100, peak 140
 //! ```
-ghost use Rattle.std.specs.Prelude.{◌≡◌, ◌<◌, ◌≤◌, ◌^◌, List, length, true, false, is_some, IfOk, IfSome};
-ghost use Rattle.std.specs.Prelude.{IfNone, OnOk, OnErr};
+ghost use Rattle.std.specs.Prelude.{◌≡◌, ◌<◌, ◌≤◌, ◌^◌, List, length, true, false, is_some};
+ghost use Rattle.std.specs.Prelude.{IfOk, IfSome, IfNone, OnOk, OnErr};
 ghost use Rattle.mem_base.specs.Name.{Name};
 ghost use Rattle.mem_base.specs.declared.limits.TheConstants.{MAX_REFUSAL};
 ghost use Rattle.mem_base.specs.declared.trace.Side.TheVariants as sides;

@@ -95,7 +95,7 @@ impl Machine {
         &self.trace
     }
 
-    /// The names of the trace.
+    /// The names and files of the trace.
     pub fn texts(&self) -> &Texts
         ensures { result.now ≡ self.now.trace.texts }
     {

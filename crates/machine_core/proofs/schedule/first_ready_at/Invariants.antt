@@ -4,4 +4,5 @@ use Rattle.machine_core.proofs.schedule.first_ready_at.Given as goal
 
 -- no track of the list so far is ready
 abbrev pub invariant-loop-i : goal.invariant-loop-i
-invariant-loop-i l = (k : ℕ) → k < l.i → is_ready_now l.trace l.owner l.progress.done.items (get_or l.progress.unfinished.items k 0) ≡ false
+invariant-loop-i l = (k : ℕ) → k < l.i
+    → is_ready_now l.trace l.owner l.progress.done.items (get_or l.progress.unfinished.items k 0) ≡ false

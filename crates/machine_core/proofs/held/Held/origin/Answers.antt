@@ -1,5 +1,5 @@
 use Rattle.std.proofs.Common.{◌∙◌, ap, sym}
-use Rattle.std.proofs.Common.{List, Option, Some}
+use Rattle.std.proofs.Common.{List, Some}
 use Rattle.mem_base.specs.declared.reply.Frame.{Frame}
 use Rattle.mem_base.specs.declared.reply.Reply.TheVariants as replies
 use Rattle.trace_table.specs.Traces.{trace_at}
@@ -12,7 +12,8 @@ returns-in_ok-kept-in-Some-clause-acts c = λ t.
     let old = c.args.self.now in
     let of = c.in-Some.of in
     origin_acts t c.args.name old (replies.Frames c.in_ok-kept-in-Some.kept of.total) c.requires.known
-    (λ texts. origin_says texts old.callers.table (trace_at old.tracing.traces (keys.Block c.args.name)) of c.in_ok-kept-in-Some.kept
+    (λ texts. origin_says texts old.callers.table (trace_at old.tracing.traces (keys.Block c.args.name)) of
+    c.in_ok-kept-in-Some.kept
     c.in-Some.ensures (c.frames.ensures.value ∙ ap (λ (fs : List Frame). Some fs) (sym c.in_ok-kept-in-Some.ensures)))
 
 pub returns-in-None-clause-acts : goal.returns-in-None-clause-acts

@@ -10,12 +10,14 @@ pub returns-clause-first : goal.returns-clause-first
 returns-clause-first c =
     let a = c.self.inside in
     subst (λ (m : MachineView). IfSome c.first_ready_at.result (IsFirstReady (ready_in m))) c.self.view_is
-    (subst (λ (ready : ℕ → Bool). IfSome c.first_ready_at.result (IsFirstReady ready)) (λ i t. ready_is a.trace a.history.entries a.held a.progress a.faulted c.self.invariant t i)
+    (subst (λ (ready : ℕ → Bool). IfSome c.first_ready_at.result (IsFirstReady ready))
+    (λ i t. ready_is a.trace a.history.entries a.held a.progress a.faulted c.self.invariant t i)
     c.first_ready_at.ensures.first)
 
 pub returns-clause-none : goal.returns-clause-none
 returns-clause-none c =
     let a = c.self.inside in
     subst (λ (m : MachineView). IfNone c.first_ready_at.result (IsDone (tracks_of m) (state_of m))) c.self.view_is
-    (subst (λ (ready : ℕ → Bool). IfNone c.first_ready_at.result ((t : ℕ) → ready t ≡ false)) (λ i t. ready_is a.trace a.history.entries a.held a.progress a.faulted c.self.invariant t i)
+    (subst (λ (ready : ℕ → Bool). IfNone c.first_ready_at.result ((t : ℕ) → ready t ≡ false))
+    (λ i t. ready_is a.trace a.history.entries a.held a.progress a.faulted c.self.invariant t i)
     c.first_ready_at.ensures.none)

@@ -12,4 +12,6 @@ pub returns : goal.returns
 returns c =
     let a = c.self.inside in
     subst (λ (m : MachineView). IfOk c.spots.result (AreSpots (living_in m))) c.self.view_is
-    (IfOk-weaker c.spots.result _ _ (spots_are (left_of a.trace.picks a.picks) a.trace a.history.entries a.held a.progress a.faulted c.self.invariant) c.spots.ensures)
+    (IfOk-weaker c.spots.result _ _
+    (spots_are (left_of a.trace.picks a.picks) a.trace a.history.entries a.held a.progress a.faulted
+    c.self.invariant) c.spots.ensures)

@@ -6,7 +6,8 @@ use Rattle.machine_core.proofs.picks.PicksLeft.take.Given as goal
 
 -- the picks so far were passed over
 abbrev pub invariant-loop-owner : goal.invariant-loop-owner
-invariant-loop-owner l = PassedOver (is_ready_now l.trace l.owner l.done) (left_of l.trace.picks l.fn.self) (left_of l.trace.picks l.self)
+invariant-loop-owner l = PassedOver (is_ready_now l.trace l.owner l.done) (left_of l.trace.picks l.fn.self)
+    (left_of l.trace.picks l.self)
 
 -- how many picks of the list are left
 abbrev pub decreases-loop-owner : goal.decreases-loop-owner
