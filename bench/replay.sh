@@ -3,7 +3,9 @@
 # each held. A trace is mixed: in waves of 32,768 operations blocks of 0 to 700 bytes of all three domains are allocated
 # and then freed in another order, so that pools and arenas fill and empty; every 512th operation shows the heap, and
 # as often a request of one of the sources is refused. Then come traces of a live heap that grows to 15, 30 and 60 arenas
-# and to 25, 50 and 100 MiB of raw blocks, and empties in a random order.
+# and to 25, 50 and 100 MiB of raw blocks, and empties in a random order. Then come traces of as many operations each
+# with 100, 10,000 and 100,000 blocks live, without tracing and while tracing, and one of 130,943 blocks, each of which has
+# 256 frames of its own.
 # Usage: bench/replay.sh (the program is proved and built first where it is not)
 set -eu
 cd "$(dirname "$0")/.."
@@ -44,6 +46,28 @@ growing() {
             at = order[k]; order[k] = order[i]
             print "free " (at < small ? "o" : "r") " b" at
         }
+    }'
+}
+
+# A trace of 262,144 operations in which that many raw blocks are live once they have come: one is freed, and its name is
+# allocated again. The last word begins tracing, or does nothing that costs anything.
+living() {
+    awk -v live="$1" -v first="$2" 'BEGIN {
+        print "pymtrace 1"; print "track t"; print first; print "call main.py 1"
+        for (i = 0; i < 262142; i++) {
+            if (i < live) print "malloc r b" i " 16"
+            else if ((i - live) % 2 == 0) print "free r b" int((i - live) / 2) % live
+            else print "malloc r b" int((i - live) / 2) % live " 16"
+        }
+    }'
+}
+
+# A trace in which each block is allocated 256 calls deep, from a line of its own.
+deep() {
+    awk 'BEGIN {
+        print "pymtrace 1"; print "track t"; print "start 65535"
+        for (i = 0; i < 256; i++) print "call module_" i ".py " i
+        for (i = 0; i < 130943; i++) { print "line " i; print "malloc r b" i " 16" }
     }'
 }
 
@@ -88,3 +112,17 @@ for arenas in 15 30 60; do
     measure "$((1 + 2 * (arenas * 1984 + arenas * 80 / 3)))"
     grep -q "^summary arenas given $arenas back $((arenas - 1)) most $arenas$" "$work/out"
 done
+
+for first in stop "start 1" "start 25"; do
+    before=""
+    for live in 100 10000 100000; do
+        living "$live" "$first" > "$work/trace"
+        printf '%s, %s blocks live: ' "$first" "$live"
+        measure 262144
+    done
+done
+
+before=""
+deep > "$work/trace"
+printf '256 frames each: '
+measure 262143

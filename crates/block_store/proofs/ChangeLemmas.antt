@@ -1,5 +1,7 @@
 -- A block that gets another size, as a turn of its slot.
-use Rattle.std.proofs.Common.{◌≡◌, ◌≢◌, ℕ, ◌+◌, ◌<◌, Bool, true, false, cond, List, [], ◌∷◌, ◌++◌, length, get_or, set, Option, Some, None, refl, sym, ap, subst, ◌∙◌, arith, inl, inr, length-append, true≢false}
+use Rattle.std.proofs.Common.{◌≡◌, ◌≢◌, ℕ, ◌+◌, ◌<◌, Bool, true, false, cond, List, [], ◌∷◌, ◌++◌, length}
+use Rattle.std.proofs.Common.{get_or, set, Option, Some, None, refl, sym, ap, subst, ◌∙◌, arith, inl, inr}
+use Rattle.std.proofs.Common.{length-append, true≢false}
 use Rattle.std.specs.Prelude.{◌%◌, ◌&&◌}
 use Rattle.std.specs.Option.{option_map}
 use Rattle.std.proofs.lemmas.List.{get_or-set_same, get_or-set_other, length-set, map-set}
@@ -21,7 +23,9 @@ use Rattle.layout_model.specs.Place.{place}
 use Rattle.layout_model.specs.Sizes.{need}
 use Rattle.request_model.specs.Decision.{Decision, too_great, faults, asks, decision, fits_in_place, move_request}
 use Rattle.event_model.specs.Blocks.{Home, Block, is_pooled}
-use Rattle.event_model.specs.Memory.{Room, SizedCall, Turn, block_made, change_turn, changed_body, layout_without, move_block, raw_home, realloc_call, request_to_move, request_to_change, room_for, sized_request, stays_in_place, turn_to}
+use Rattle.event_model.specs.Memory.{Room, SizedCall, Turn, block_made, change_turn, changed_body}
+use Rattle.event_model.specs.Memory.{layout_without, move_block, raw_home, realloc_call, request_to_move}
+use Rattle.event_model.specs.Memory.{request_to_change, room_for, sized_request, stays_in_place, turn_to}
 use Rattle.event_model.specs.Replies.{PlainReply, null, ok, fault_in}
 use Rattle.domain_api.specs.Domains.{IsMoved, IsReallocated, IsRefused, IsResized, MayStay, MustMove, not_asked}
 use Rattle.domain_api.specs.Held.{AreHeld, AreSound, DomainsView}
@@ -33,9 +37,12 @@ use Rattle.block_store.specs.Replies.{answer_of, block_left}
 use Rattle.block_store.specs.Slots.{IsStore, IsStored, block_in, block_of, blocks_of, loans_of}
 use Rattle.block_store.specs.Store.{IsTurn, block_at, sized_by, view_of}
 use Rattle.block_store.proofs.HomeLemmas.{SameHomes, its_pool, loans_apart}
-use Rattle.block_store.proofs.LoanLemmas.{gone_homes, gone_is, gone_stored, kept_store, left_others, lent_homes, lent_is, lent_store, put_blocks, store_is}
-use Rattle.block_store.proofs.StoredLemmas.{at_front, at_last, length-image_of, some_bytes, stored_moved, stored_push_none}
-use Rattle.block_store.proofs.TurnLemmas.{Leads, Says, at_is, left_is, length-fresh, lies, new_leads, no_request, put_again, set_twice, sets_so, stays_so, turn_at}
+use Rattle.block_store.proofs.LoanLemmas.{gone_homes, gone_is, gone_stored, kept_store, left_others}
+use Rattle.block_store.proofs.LoanLemmas.{lent_homes, lent_is, lent_store, put_blocks, store_is}
+use Rattle.block_store.proofs.StoredLemmas.{at_front, at_last, length-image_of, some_bytes, stored_moved}
+use Rattle.block_store.proofs.StoredLemmas.{stored_push_none}
+use Rattle.block_store.proofs.TurnLemmas.{Leads, Says, at_is, left_is, length-fresh, lies, new_leads}
+use Rattle.block_store.proofs.TurnLemmas.{no_request, put_again, set_twice, sets_so, stays_so, turn_at}
 use Rattle.block_store.proofs.Types.{Arenas, Raws, Slots}
 
 abbrev some_extent : Extent → Option Extent

@@ -1,5 +1,6 @@
 -- The blocks of both heaps, as one comes or goes.
-use Rattle.std.proofs.Common.{◌≡◌, ℕ, ◌<◌, ◌≤◌, List, [], ◌∷◌, ◌++◌, length, get_or, set, replicate, Option, Some, None, refl, sym, ap, subst, ◌∙◌, inl, inr}
+use Rattle.std.proofs.Common.{◌≡◌, ℕ, ◌<◌, ◌≤◌, List, [], ◌∷◌, ◌++◌, length, get_or, set, replicate, Option}
+use Rattle.std.proofs.Common.{Some, None, refl, sym, ap, subst, ◌∙◌, inl, inr}
 use Rattle.std.specs.Prelude.{IfSome, IfNone}
 use Rattle.std.specs.Option.{option_map}
 use Rattle.std.proofs.lemmas.Bool.Decides.{eqb_tells}
@@ -17,8 +18,10 @@ use Rattle.domain_api.specs.declared.answers.Asked.{Asked}
 use Rattle.event_model.specs.Blocks.{Block}
 use Rattle.block_store.specs.Homes.{Places, home_at}
 use Rattle.block_store.specs.Slots.{IsStore, IsStored, block_in, blocks_of, loans_of}
-use Rattle.block_store.proofs.HomeLemmas.{SameHomes, blocks_same, home_of_raw, home_where_placed, home_where_freed, loans_apart}
-use Rattle.block_store.proofs.StoredLemmas.{stored_has, stored_long, stored_more, stored_fewer, stored_kept, stored_none, stored_pop_none, stored_pop_some, last_has, none_in}
+use Rattle.block_store.proofs.HomeLemmas.{SameHomes, blocks_same, home_of_raw, home_where_placed}
+use Rattle.block_store.proofs.HomeLemmas.{home_where_freed, loans_apart}
+use Rattle.block_store.proofs.StoredLemmas.{stored_has, stored_long, stored_more, stored_fewer, stored_kept}
+use Rattle.block_store.proofs.StoredLemmas.{stored_none, stored_pop_none, stored_pop_some, last_has, none_in}
 use Rattle.block_store.proofs.Types.{Arenas, Raws, Slots}
 
 -- the blocks of the slots are just those of both heaps

@@ -1,5 +1,7 @@
 -- The spots of blocks in slots.
-use Rattle.std.proofs.Common.{◌≡◌, ℕ, zero, suc, ◌+◌, ◌<◌, ◌≤◌, Bool, true, false, cond, List, [], ◌∷◌, ◌++◌, length, get_or, take, Option, Some, None, refl, sym, ap, subst, ◌∙◌, arith, inl, inr, ◌⊎◌, length-append}
+use Rattle.std.proofs.Common.{◌≡◌, ℕ, zero, suc, ◌+◌, ◌<◌, ◌≤◌, Bool, true, false, cond, List, [], ◌∷◌, ◌++◌}
+use Rattle.std.proofs.Common.{length, get_or, take, Option, Some, None, refl, sym, ap, subst, ◌∙◌, arith, inl}
+use Rattle.std.proofs.Common.{inr, ◌⊎◌, length-append}
 use Rattle.py_heap.specs.Heap.{regions_of}
 use Rattle.std.specs.Prelude.{◌==◌, is_some}
 use Rattle.std.proofs.lemmas.Bool.Decides.{eqb_tells}
@@ -14,7 +16,8 @@ use Rattle.debug_guard.specs.Guard.{Guard, guard_extent, piece_of}
 use Rattle.extents.proofs.CallerLemmas.{has_left, has_right}
 use Rattle.block_store.specs.Homes.{Places}
 use Rattle.block_store.specs.Slots.{IsStore, block_in, block_of, blocks_of, extents_of, pieces_of, piece_in}
-use Rattle.block_store.specs.Spots.{names, has_address, living, spots_from, spot_at, AreSpots, GoUpFrom, IsSpot, LiesInOne}
+use Rattle.block_store.specs.Spots.{names, has_address, living, spots_from, spot_at, AreSpots, GoUpFrom}
+use Rattle.block_store.specs.Spots.{IsSpot, LiesInOne}
 use Rattle.block_store.specs.Store.{view_of}
 use Rattle.block_store.specs.declared.spot.Spot.{Spot}
 use Rattle.block_store.proofs.StoredLemmas.{length-image_of}

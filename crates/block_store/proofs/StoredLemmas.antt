@@ -1,5 +1,7 @@
 -- The memory of the blocks in slots, as a block comes or goes.
-use Rattle.std.proofs.Common.{◌≡◌, ℕ, zero, suc, ◌+◌, ◌<◌, ◌≤◌, Bool, cond, List, [], ◌∷◌, ◌++◌, length, get_or, set, replicate, Option, Some, None, refl, sym, ap, subst, ◌∙◌, arith, inl, inr, length-append, true≢false}
+use Rattle.std.proofs.Common.{◌≡◌, ℕ, zero, suc, ◌+◌, ◌<◌, ◌≤◌, Bool, cond, List, [], ◌∷◌, ◌++◌, length}
+use Rattle.std.proofs.Common.{get_or, set, replicate, Option, Some, None, refl, sym, ap, subst, ◌∙◌, arith}
+use Rattle.std.proofs.Common.{inl, inr, length-append, true≢false}
 use Rattle.std.specs.Option.{option_map}
 use Rattle.std.specs.Prelude.{◌%◌, ◌==◌, if◌then◌else◌, IsSome}
 use Rattle.std.proofs.lemmas.Bool.Decides.{eqb_tells}
@@ -8,7 +10,8 @@ use Rattle.std.specs.Int.{to_be_bytes, w64}
 use Rattle.block_model.specs.Block.{image_of, size_of}
 use Rattle.extents.specs.Extent.{Extent, AreApart, covers}
 use Rattle.extents.specs.Sums.{tally, AllIn, Has, Inserted, Removed}
-use Rattle.extents.proofs.CallerLemmas.{all_in_fewer, all_in_more, inserted_first, inserted_under, tally_has, tally_inserted}
+use Rattle.extents.proofs.CallerLemmas.{all_in_fewer, all_in_more, inserted_first, inserted_under, tally_has}
+use Rattle.extents.proofs.CallerLemmas.{tally_inserted}
 use Rattle.debug_guard.specs.Guard.{Guard, guard_extent}
 use Rattle.block_store.specs.Slots.{IsStored, extents_of}
 

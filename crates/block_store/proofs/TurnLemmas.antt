@@ -1,5 +1,7 @@
 -- The calls of a store, as turns of one slot.
-use Rattle.std.proofs.Common.{◌≡◌, ◌≢◌, ℕ, zero, suc, ◌+◌, ◌<◌, ◌≤◌, Bool, true, false, cond, List, [], ◌∷◌, length, get_or, replicate, set, Option, Some, None, ℤ, refl, sym, ap, subst, ◌∙◌, arith, inl, inr, length-append, true≢false}
+use Rattle.std.proofs.Common.{◌≡◌, ◌≢◌, ℕ, zero, suc, ◌+◌, ◌<◌, ◌≤◌, Bool, true, false, cond, List, [], ◌∷◌}
+use Rattle.std.proofs.Common.{length, get_or, replicate, set, Option, Some, None, ℤ, refl, sym, ap, subst}
+use Rattle.std.proofs.Common.{◌∙◌, arith, inl, inr, length-append, true≢false}
 use Rattle.std.specs.Prelude.{is_some}
 use Rattle.std.proofs.lemmas.Grind.{common_steps}
 use Rattle.std.proofs.lemmas.List.{get_or-set_other, length-map, set-get_or}
@@ -27,7 +29,9 @@ use Rattle.layout_model.specs.Sizes.{class_of, need}
 use Rattle.request_model.specs.Decision.{Decision, too_great, faults, asks, call_fault, request}
 use Rattle.py_heap.specs.Heap.{HeapView, empty_heap}
 use Rattle.event_model.specs.Blocks.{Home, in_pool, in_raw, Block, len_at}
-use Rattle.event_model.specs.Memory.{Room, SizedCall, Turn, block_made, came_to, change_turn, free_turn, free_unless, layout_without, new_block, new_block_turn, peek_turn, poke_turn, raw_home, room_for, turn_to}
+use Rattle.event_model.specs.Memory.{Room, SizedCall, Turn, block_made, came_to, change_turn, free_turn}
+use Rattle.event_model.specs.Memory.{free_unless, layout_without, new_block, new_block_turn, peek_turn}
+use Rattle.event_model.specs.Memory.{poke_turn, raw_home, room_for, turn_to}
 use Rattle.event_model.specs.Replies.{PlainReply, busy, ok, null, fault, fault_in, bytes, outside, plain_reply}
 use Rattle.domain_api.specs.Domains.{IsMade, IsFreed, IsGivenUp, IsLent}
 use Rattle.domain_api.specs.Held.{AreHeld, AreSound, DomainsView}
@@ -42,7 +46,8 @@ use Rattle.block_store.specs.Slots.{IsStore, block_in, block_of, blocks_of, piec
 use Rattle.block_store.specs.Store.{IsTurn, StoreView, block_at, empty_store, sized_by, view_of}
 use Rattle.block_store.proofs.HomeLemmas.{home_of_freed, home_of_new, home_of_raw}
 use Rattle.block_store.proofs.RoomLemmas.{room_in_pool, room_in_raw}
-use Rattle.block_store.proofs.LoanLemmas.{gone_homes, gone_store, gone_stored, drop_blocks, left_others, lent_homes, lent_store, put_blocks}
+use Rattle.block_store.proofs.LoanLemmas.{gone_homes, gone_store, gone_stored, drop_blocks, left_others}
+use Rattle.block_store.proofs.LoanLemmas.{lent_homes, lent_store, put_blocks}
 use Rattle.block_store.proofs.StoredLemmas.{length-image_of, some_bytes}
 use Rattle.block_store.proofs.Types.{Slots}
 

@@ -1,5 +1,6 @@
 -- Where a block lies: in the pool that has its address, or in a raw region of its own.
-use Rattle.std.specs.Prelude.{ℕ, ◌+◌, Bool, false, ◌&&◌, nat_le, nat_lt, if◌then◌else◌, List, [], ◌∷◌, Option, Some, None}
+use Rattle.std.specs.Prelude.{ℕ, ◌+◌, Bool, false, ◌&&◌, nat_le, nat_lt, if◌then◌else◌, List, [], ◌∷◌, Option}
+use Rattle.std.specs.Prelude.{Some, None}
 use Rattle.layout_model.specs.declared.measures.TheConstants.{POOL_BYTES}
 use Rattle.event_model.specs.Blocks.{Home, in_pool, in_raw}
 

@@ -1,5 +1,6 @@
 -- Where live blocks lie.
-use Rattle.std.specs.Prelude.{◌≡◌, ℕ, ◌+◌, ◌%◌, ◌<◌, ◌≤◌, ◌==◌, nat_le, if◌then◌else◌, List, [], ◌∷◌, ◌++◌, length, take, get_or, is_some, Option, Some, None}
+use Rattle.std.specs.Prelude.{◌≡◌, ℕ, ◌+◌, ◌%◌, ◌<◌, ◌≤◌, ◌==◌, nat_le, if◌then◌else◌, List, [], ◌∷◌, ◌++◌}
+use Rattle.std.specs.Prelude.{length, take, get_or, is_some, Option, Some, None}
 use Rattle.mem_base.specs.declared.texts.TextId.{TextId}
 use Rattle.block_model.specs.Block.{image_of}
 use Rattle.raw_region.specs.Region.{PieceView}

@@ -1,5 +1,6 @@
 -- What contracts see of a store, and what one call does to it.
-use Rattle.std.specs.Prelude.{◌≡◌, ◌≢◌, ℕ, ◌-◌, Bool, List, get_or, replicate, slice_set, sum_by, [], Option, Some, None}
+use Rattle.std.specs.Prelude.{◌≡◌, ◌≢◌, ℕ, ◌-◌, Bool, List, get_or, replicate, slice_set, sum_by, [], Option}
+use Rattle.std.specs.Prelude.{Some, None}
 use Rattle.py_heap.specs.Heap.{regions_of}
 use Rattle.mem_base.specs.Name.{Name}
 use Rattle.mem_base.specs.declared.reply.Counts.{Counts}

@@ -1,11 +1,14 @@
 -- What holds of one operation, and of an event: one more operation has one more arm here.
-use Rattle.std.proofs.Common.{◌≡◌, ◌≢◌, ℕ, true≢false, Bool, true, false, cond, List, Option, Some, None, refl, sym, ap, subst, ◌∙◌, inl, inr, ◌⊎◌}
+use Rattle.std.proofs.Common.{◌≡◌, ◌≢◌, ℕ, true≢false, Bool, true, false, cond, List, Option, Some, None}
+use Rattle.std.proofs.Common.{refl, sym, ap, subst, ◌∙◌, inl, inr, ◌⊎◌}
 use Rattle.std.proofs.lemmas.Bool.Decides.{eqb_tells}
 use Rattle.mem_base.specs.Name.{Name}
 use Rattle.mem_base.specs.declared.history.Grant.{Grant}
 use Rattle.mem_base.specs.declared.history.Ask.{Ask}
 use Rattle.mem_base.specs.declared.history.Entry.{Entry}
-use Rattle.trace_model.specs.Plain.{Action, acquire, release, malloc, calloc, realloc, free, poke, peek, heap, refuse, other, PlainTrack, name_of}
+use Rattle.trace_model.specs.Plain.{Action, acquire, release, malloc, calloc, realloc, free, poke, peek, enter, go_to}
+use Rattle.trace_model.specs.Plain.{leave, start_tracing, stop_tracing, clear_traces, reset_peak, traced_memory, mark}
+use Rattle.trace_model.specs.Plain.{unmark, origin, heap, refuse, other, PlainTrack, name_of}
 use Rattle.layout_model.specs.Asks.{Request, FitsRequest}
 use Rattle.layout_model.specs.Asks.Request.{FromPools}
 use Rattle.layout_model.specs.Layout.{Layout}
@@ -14,17 +17,20 @@ use Rattle.layout_model.specs.Sizes.{is_small, class_of}
 use Rattle.map_model.specs.Map.{find}
 use Rattle.map_model.proofs.CallerLemmas.{find-hold_other, find-hold_again}
 use Rattle.request_model.specs.Decision.{call_fault}
-use Rattle.event_model.specs.Effects.{effect, may_do_next, on_sized, request_of, sized_call, sized_for}
+use Rattle.tracing_model.specs.Traces.{of_block}
+use Rattle.event_model.specs.Effects.{act, effect, may_do_next, on_sized, request_of, sized_call, sized_for}
 use Rattle.event_model.specs.Events.{event, event_of, settle, advance, next_action, next_request}
 use Rattle.event_model.specs.History.{IsNext}
 use Rattle.event_model.specs.Laws.{IsNull}
 use Rattle.event_model.specs.Memory.{SizedCall, calloc_call, finding_of, malloc_call, realloc_call}
 use Rattle.event_model.specs.Replies.{PlainReply, ok, null, held, not_held, is_fault}
 use Rattle.event_model.specs.State.{Held, State, is_owner}
+use Rattle.event_model.specs.Tracing.{trace_in}
 use Rattle.event_model.proofs.KeepLaws.{sized_keeps, free_keeps, poke_keeps, peek_keeps}
 use Rattle.event_model.proofs.LayoutLaws.{Placing, Unplacing, sized_holds, unless_holds, poke_holds, peek_holds}
 use Rattle.event_model.proofs.LeftLaws.{waits}
-use Rattle.event_model.proofs.NullLaws.{acquire_null, release_null, free_null, poke_null, peek_null, sized_why, sized_null}
+use Rattle.event_model.proofs.NullLaws.{acquire_null, release_null, free_null, poke_null, peek_null, mark_null}
+use Rattle.event_model.proofs.NullLaws.{trace_null, sized_why, sized_null}
 
 -- ---- calls for a block
 
@@ -49,6 +55,17 @@ sized_is h t (poke mine offset new) arena raw name call named sized = absurd cc
 sized_is h t (peek mine offset count) arena raw name call named sized = absurd cc
 sized_is h t heap arena raw name call named sized = absurd cc
 sized_is h t (refuse side k) arena raw name call named sized = absurd cc
+sized_is h t (enter file line) arena raw name call named sized = absurd cc
+sized_is h t (go_to line) arena raw name call named sized = absurd cc
+sized_is h t leave arena raw name call named sized = absurd cc
+sized_is h t (start_tracing limit) arena raw name call named sized = absurd cc
+sized_is h t stop_tracing arena raw name call named sized = absurd cc
+sized_is h t clear_traces arena raw name call named sized = absurd cc
+sized_is h t reset_peak arena raw name call named sized = absurd cc
+sized_is h t traced_memory arena raw name call named sized = absurd cc
+sized_is h t (mark domain number size) arena raw name call named sized = absurd cc
+sized_is h t (unmark domain number) arena raw name call named sized = absurd cc
+sized_is h t (origin mine) arena raw name call named sized = absurd cc
 sized_is h t other arena raw name call named sized = absurd cc
 
 -- and asks for what that call asks for
@@ -72,6 +89,17 @@ sized_asks h t (poke mine offset new) name call named sized = absurd cc
 sized_asks h t (peek mine offset count) name call named sized = absurd cc
 sized_asks h t heap name call named sized = absurd cc
 sized_asks h t (refuse side k) name call named sized = absurd cc
+sized_asks h t (enter file line) name call named sized = absurd cc
+sized_asks h t (go_to line) name call named sized = absurd cc
+sized_asks h t leave name call named sized = absurd cc
+sized_asks h t (start_tracing limit) name call named sized = absurd cc
+sized_asks h t stop_tracing name call named sized = absurd cc
+sized_asks h t clear_traces name call named sized = absurd cc
+sized_asks h t reset_peak name call named sized = absurd cc
+sized_asks h t traced_memory name call named sized = absurd cc
+sized_asks h t (mark domain number size) name call named sized = absurd cc
+sized_asks h t (unmark domain number) name call named sized = absurd cc
+sized_asks h t (origin mine) name call named sized = absurd cc
 sized_asks h t other name call named sized = absurd cc
 
 -- ---- layouts
@@ -91,6 +119,17 @@ effect_holds P h t (poke name offset new) arena raw here placed unplaced = poke_
 effect_holds P h t (peek name offset count) arena raw here placed unplaced = peek_holds P offset count h.layout (find h.blocks name) here
 effect_holds P h t heap arena raw here placed unplaced = here
 effect_holds P h t (refuse side k) arena raw here placed unplaced = here
+effect_holds P h t (enter file line) arena raw here placed unplaced = here
+effect_holds P h t (go_to line) arena raw here placed unplaced = here
+effect_holds P h t leave arena raw here placed unplaced = here
+effect_holds P h t (start_tracing limit) arena raw here placed unplaced = here
+effect_holds P h t stop_tracing arena raw here placed unplaced = here
+effect_holds P h t clear_traces arena raw here placed unplaced = here
+effect_holds P h t reset_peak arena raw here placed unplaced = here
+effect_holds P h t traced_memory arena raw here placed unplaced = here
+effect_holds P h t (mark domain number size) arena raw here placed unplaced = here
+effect_holds P h t (unmark domain number) arena raw here placed unplaced = here
+effect_holds P h t (origin name) arena raw here placed unplaced = here
 effect_holds P h t other arena raw here placed unplaced = here
 
 settle_holds : (P : Layout → Type 0) (tracks : List PlainTrack) (t : ℕ) (s : State) (r : Held × PlainReply) → P s.held.layout → P r.0.layout → P (settle tracks t s r).held.layout
@@ -112,7 +151,9 @@ event_holds P tracks s e here placed unplaced = by (next_action tracks s e.track
     by : (o : Option Action) → ((m : ℕ) → next_request s.held e.track o ≡ FromPools m → is_small m ≡ true → P (place s.held.layout (class_of m) e.arena).layout)
         → P (event_of tracks s e.track e.arena e.raw o).0.held.layout
     by None placed = here
-    by (Some a) placed = settle_holds P tracks e.track s (effect s.held e.track a e.arena e.raw) here (effect_holds P s.held e.track a e.arena e.raw here placed unplaced)
+    by (Some a) placed =
+        let r = act s.held e.track a e.arena e.raw in
+        settle_holds P tracks e.track s r here (effect_holds P s.held e.track a e.arena e.raw here placed unplaced)
 
 -- ---- the reply of an event is that of its operation
 
@@ -142,6 +183,17 @@ null_by tracks s e (poke name offset new) is fits h = absurd (poke_null offset n
 null_by tracks s e (peek name offset count) is fits h = absurd (peek_null offset count s.held.layout (find s.held.blocks name) h)
 null_by tracks s e heap is fits h = absurd cc
 null_by tracks s e (refuse side k) is fits h = absurd cc
+null_by tracks s e (enter file line) is fits h = absurd cc
+null_by tracks s e (go_to line) is fits h = absurd cc
+null_by tracks s e leave is fits h = absurd cc
+null_by tracks s e (start_tracing limit) is fits h = absurd cc
+null_by tracks s e stop_tracing is fits h = absurd cc
+null_by tracks s e clear_traces is fits h = absurd cc
+null_by tracks s e reset_peak is fits h = absurd cc
+null_by tracks s e traced_memory is fits h = absurd cc
+null_by tracks s e (mark domain number size) is fits h = absurd (mark_null s.held.tracing h)
+null_by tracks s e (unmark domain number) is fits h = absurd (mark_null s.held.tracing h)
+null_by tracks s e (origin name) is fits h = absurd (trace_null (trace_in s.held.tracing (of_block name)) h)
 null_by tracks s e other is fits h = absurd cc
 
 -- the answers of an event that may come next fit what its operation asks for
@@ -184,6 +236,17 @@ owner_after h t (poke name offset new) arena raw u own = inr own
 owner_after h t (peek name offset count) arena raw u own = inr own
 owner_after h t heap arena raw u own = inr own
 owner_after h t (refuse side k) arena raw u own = inr own
+owner_after h t (enter file line) arena raw u own = inr own
+owner_after h t (go_to line) arena raw u own = inr own
+owner_after h t leave arena raw u own = inr own
+owner_after h t (start_tracing limit) arena raw u own = inr own
+owner_after h t stop_tracing arena raw u own = inr own
+owner_after h t clear_traces arena raw u own = inr own
+owner_after h t reset_peak arena raw u own = inr own
+owner_after h t traced_memory arena raw u own = inr own
+owner_after h t (mark domain number size) arena raw u own = inr own
+owner_after h t (unmark domain number) arena raw u own = inr own
+owner_after h t (origin name) arena raw u own = inr own
 owner_after h t other arena raw u own = inr own
 
 -- the owner of the lock waits for nothing
@@ -198,6 +261,17 @@ owner_may_do t (poke name offset new) = refl
 owner_may_do t (peek name offset count) = refl
 owner_may_do t heap = refl
 owner_may_do t (refuse side k) = refl
+owner_may_do t (enter file line) = refl
+owner_may_do t (go_to line) = refl
+owner_may_do t leave = refl
+owner_may_do t (start_tracing limit) = refl
+owner_may_do t stop_tracing = refl
+owner_may_do t clear_traces = refl
+owner_may_do t reset_peak = refl
+owner_may_do t traced_memory = refl
+owner_may_do t (mark domain number size) = refl
+owner_may_do t (unmark domain number) = refl
+owner_may_do t (origin name) = refl
 owner_may_do t other = refl
 
 -- where the lock is free, no track waits
@@ -212,6 +286,17 @@ may_do_free t (poke name offset new) = refl
 may_do_free t (peek name offset count) = refl
 may_do_free t heap = refl
 may_do_free t (refuse side k) = refl
+may_do_free t (enter file line) = refl
+may_do_free t (go_to line) = refl
+may_do_free t leave = refl
+may_do_free t (start_tracing limit) = refl
+may_do_free t stop_tracing = refl
+may_do_free t clear_traces = refl
+may_do_free t reset_peak = refl
+may_do_free t traced_memory = refl
+may_do_free t (mark domain number size) = refl
+may_do_free t (unmark domain number) = refl
+may_do_free t (origin name) = refl
 may_do_free t other = refl
 
 -- a track that waits, waits to acquire the lock
@@ -227,6 +312,17 @@ waits_for_lock owner t (poke name offset new) waits = absurd (true≢false waits
 waits_for_lock owner t (peek name offset count) waits = absurd (true≢false waits)
 waits_for_lock owner t heap waits = absurd (true≢false waits)
 waits_for_lock owner t (refuse side k) waits = absurd (true≢false waits)
+waits_for_lock owner t (enter file line) waits = absurd (true≢false waits)
+waits_for_lock owner t (go_to line) waits = absurd (true≢false waits)
+waits_for_lock owner t leave waits = absurd (true≢false waits)
+waits_for_lock owner t (start_tracing limit) waits = absurd (true≢false waits)
+waits_for_lock owner t stop_tracing waits = absurd (true≢false waits)
+waits_for_lock owner t clear_traces waits = absurd (true≢false waits)
+waits_for_lock owner t reset_peak waits = absurd (true≢false waits)
+waits_for_lock owner t traced_memory waits = absurd (true≢false waits)
+waits_for_lock owner t (mark domain number size) waits = absurd (true≢false waits)
+waits_for_lock owner t (unmark domain number) waits = absurd (true≢false waits)
+waits_for_lock owner t (origin name) waits = absurd (true≢false waits)
 waits_for_lock owner t other waits = absurd (true≢false waits)
 
 -- ---- names
@@ -246,6 +342,17 @@ effect_keeps_others h t (poke mine offset new) arena raw name ne = find-hold_oth
 effect_keeps_others h t (peek mine offset count) arena raw name ne = find-hold_other h.blocks mine name _ (differs name mine ne)
 effect_keeps_others h t heap arena raw name ne = refl
 effect_keeps_others h t (refuse side k) arena raw name ne = refl
+effect_keeps_others h t (enter file line) arena raw name ne = refl
+effect_keeps_others h t (go_to line) arena raw name ne = refl
+effect_keeps_others h t leave arena raw name ne = refl
+effect_keeps_others h t (start_tracing limit) arena raw name ne = refl
+effect_keeps_others h t stop_tracing arena raw name ne = refl
+effect_keeps_others h t clear_traces arena raw name ne = refl
+effect_keeps_others h t reset_peak arena raw name ne = refl
+effect_keeps_others h t traced_memory arena raw name ne = refl
+effect_keeps_others h t (mark domain number size) arena raw name ne = refl
+effect_keeps_others h t (unmark domain number) arena raw name ne = refl
+effect_keeps_others h t (origin mine) arena raw name ne = refl
 effect_keeps_others h t other arena raw name ne = refl
 
 -- an operation that answers anything but ok leaves what each name holds
@@ -265,4 +372,15 @@ effect_keeps_unless_ok h t (poke mine offset new) arena raw name ne = find-hold_
 effect_keeps_unless_ok h t (peek mine offset count) arena raw name ne = find-hold_again h.blocks mine name _ (peek_keeps offset count h.layout (find h.blocks mine))
 effect_keeps_unless_ok h t heap arena raw name ne = refl
 effect_keeps_unless_ok h t (refuse side k) arena raw name ne = refl
+effect_keeps_unless_ok h t (enter file line) arena raw name ne = refl
+effect_keeps_unless_ok h t (go_to line) arena raw name ne = refl
+effect_keeps_unless_ok h t leave arena raw name ne = refl
+effect_keeps_unless_ok h t (start_tracing limit) arena raw name ne = refl
+effect_keeps_unless_ok h t stop_tracing arena raw name ne = refl
+effect_keeps_unless_ok h t clear_traces arena raw name ne = refl
+effect_keeps_unless_ok h t reset_peak arena raw name ne = refl
+effect_keeps_unless_ok h t traced_memory arena raw name ne = refl
+effect_keeps_unless_ok h t (mark domain number size) arena raw name ne = refl
+effect_keeps_unless_ok h t (unmark domain number) arena raw name ne = refl
+effect_keeps_unless_ok h t (origin mine) arena raw name ne = refl
 effect_keeps_unless_ok h t other arena raw name ne = refl

@@ -1,8 +1,9 @@
 -- A fault changes nothing but that it has come, and is the last event of a history.
-use Rattle.std.proofs.Common.{◌≡◌, ℕ, Bool, true, false, cond, List, [], ◌∷◌, ◌++◌, Option, Some, None, refl, sym, ap, ◌∙◌, true≢false}
+use Rattle.std.proofs.Common.{◌≡◌, ℕ, Bool, true, false, cond, List, [], ◌∷◌, ◌++◌, Option, Some, None, refl}
+use Rattle.std.proofs.Common.{sym, ap, ◌∙◌, true≢false}
 use Rattle.mem_base.specs.declared.history.Entry.{Entry}
 use Rattle.trace_model.specs.Plain.{Action, PlainTrack}
-use Rattle.event_model.specs.Effects.{effect}
+use Rattle.event_model.specs.Effects.{act}
 use Rattle.event_model.specs.Events.{event, event_of, next_action, advance}
 use Rattle.event_model.specs.History.{opening, state_after, IsLegalFrom, IsLegal, EndsInFault}
 use Rattle.event_model.specs.Replies.{PlainReply, is_fault}
@@ -27,7 +28,7 @@ fault_keeps tracks s e is = by (next_action tracks s e.track) is
   where
     by : (o : Option Action) → is_fault (event_of tracks s e.track e.arena e.raw o).1 ≡ true → (event_of tracks s e.track e.arena e.raw o).0 ≡ record s { faulted = true }
     by None is = absurd (true≢false (sym is))
-    by (Some a) is = ap (settled_by tracks e.track s (effect s.held e.track a e.arena e.raw)) is
+    by (Some a) is = ap (settled_by tracks e.track s (act s.held e.track a e.arena e.raw)) is
 
 -- no other reply says that a fault has come
 pub others_keep : (tracks : List PlainTrack) (s : State) (e : Entry) → is_fault (event tracks s e).1 ≡ false → (event tracks s e).0.faulted ≡ s.faulted
@@ -36,7 +37,7 @@ others_keep tracks s e is = by (next_action tracks s e.track) is
   where
     by : (o : Option Action) → is_fault (event_of tracks s e.track e.arena e.raw o).1 ≡ false → (event_of tracks s e.track e.arena e.raw o).0.faulted ≡ s.faulted
     by None is = refl
-    by (Some a) is = ap (λ (b : Bool). (settled_by tracks e.track s (effect s.held e.track a e.arena e.raw) b).faulted) is
+    by (Some a) is = ap (λ (b : Bool). (settled_by tracks e.track s (act s.held e.track a e.arena e.raw) b).faulted) is
 
 -- an event after which a fault has come is one, if none had come before
 fell_now : (tracks : List PlainTrack) (s : State) (e : Entry) → s.faulted ≡ false → (event tracks s e).0.faulted ≡ true → is_fault (event tracks s e).1 ≡ true

@@ -8,7 +8,9 @@ use Rattle.layout_model.specs.Layout.{Layout}
 use Rattle.layout_model.specs.Sizes.{need}
 use Rattle.request_model.specs.Decision.{Decision, too_great, faults, asks, request}
 use Rattle.event_model.specs.Blocks.{Home, Block}
-use Rattle.event_model.specs.Memory.{Turn, turn_to, room_for, SizedCall, came_to, new_block, new_block_turn, stays_in_place, request_to_move, move_block, change_turn, sized_turn, free_unless, poke_turn, peek_turn}
+use Rattle.event_model.specs.Memory.{Turn, turn_to, room_for, SizedCall, came_to, new_block, new_block_turn}
+use Rattle.event_model.specs.Memory.{stays_in_place, request_to_move, move_block, change_turn, sized_turn}
+use Rattle.event_model.specs.Memory.{free_unless, poke_turn, peek_turn}
 use Rattle.event_model.specs.Replies.{ok, busy, outside, bytes}
 use Rattle.event_model.proofs.LayoutLaws.{change_by}
 

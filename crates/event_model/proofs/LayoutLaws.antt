@@ -12,7 +12,10 @@ use Rattle.layout_model.specs.Sizes.{is_small, class_of, need}
 use Rattle.layout_model.specs.Unplace.{unplace}
 use Rattle.request_model.specs.Decision.{Decision, too_great, faults, asks, request, request_after}
 use Rattle.event_model.specs.Blocks.{Home, in_pool, in_raw, Block}
-use Rattle.event_model.specs.Memory.{Turn, turn_to, Room, raw_home, small_room, room_for, layout_without, SizedCall, came_to, new_block, new_block_turn, stays_in_place, request_to_move, changed_body, move_block, change_turn, sized_turn, request_to_change, sized_request, free_unless, poke_turn, peek_turn}
+use Rattle.event_model.specs.Memory.{Turn, turn_to, Room, raw_home, small_room, room_for, layout_without}
+use Rattle.event_model.specs.Memory.{SizedCall, came_to, new_block, new_block_turn, stays_in_place}
+use Rattle.event_model.specs.Memory.{request_to_move, changed_body, move_block, change_turn, sized_turn}
+use Rattle.event_model.specs.Memory.{request_to_change, sized_request, free_unless, poke_turn, peek_turn}
 use Rattle.event_model.specs.Replies.{PlainReply, ok, busy, outside, bytes}
 
 -- a fact of layouts holds wherever this request leads

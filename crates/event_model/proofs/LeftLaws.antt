@@ -1,5 +1,7 @@
 -- Each event leaves less to do.
-use Rattle.std.proofs.Common.{◌≡◌, ℕ, zero, suc, ◌+◌, ◌<◌, ◌≤◌, Bool, true, false, cond, List, [], ◌∷◌, ◌++◌, length, slice_get, set, map, Option, Some, None, refl, sym, ap, subst, ◌∙◌, arith, length-set, true≢false}
+use Rattle.std.proofs.Common.{◌≡◌, ℕ, zero, suc, ◌+◌, ◌<◌, ◌≤◌, Bool, true, false, cond, List, [], ◌∷◌, ◌++◌}
+use Rattle.std.proofs.Common.{length, slice_get, set, map, Option, Some, None, refl, sym, ap, subst, ◌∙◌}
+use Rattle.std.proofs.Common.{arith, length-set, true≢false}
 use Rattle.std.specs.Prelude.{slice_index}
 use Rattle.std.specs.Option.{option_and_then}
 use Rattle.std.proofs.lemmas.Option.{slice_get_within}
@@ -7,7 +9,7 @@ use Rattle.std.proofs.lemmas.List.Sums.{sum_by-cons}
 use Rattle.mem_base.specs.declared.history.Entry.{Entry}
 use Rattle.trace_model.specs.Plain.{Action, PlainTrack}
 use Rattle.trace_model.specs.Spelling.{action_count}
-use Rattle.event_model.specs.Effects.{effect}
+use Rattle.event_model.specs.Effects.{act}
 use Rattle.event_model.specs.Events.{event, event_of, settle, advance, next_action, may_do, ops_left, left_in}
 use Rattle.event_model.specs.History.{opening, state_after, last_state, IsNext, IsLegalFrom, IsLegal}
 use Rattle.event_model.specs.Replies.{PlainReply, is_fault}
@@ -29,7 +31,7 @@ event_length tracks s e = by (next_action tracks s e.track)
   where
     by : (o : Option Action) → length (event_of tracks s e.track e.arena e.raw o).0.done ≡ length s.done
     by None = refl
-    by (Some a) = settle_length tracks e.track s (effect s.held e.track a e.arena e.raw)
+    by (Some a) = settle_length tracks e.track s (act s.held e.track a e.arena e.raw)
 
 after_length : (tracks : List PlainTrack) (s : State) (es : List Entry) → length (state_after tracks s es).done ≡ length s.done
 after_length tracks s [] = refl
@@ -88,8 +90,11 @@ next_less : (tracks : List PlainTrack) (s : State) (e : Entry) → length s.done
 unfolding event
 next_less tracks s e same next =
     let w = waits s.held.owner e.track (next_action tracks s e.track) next.ready in
-    let then_is : (event tracks s e).0 ≡ settle tracks e.track s (effect s.held e.track w.0 e.arena e.raw) = ap (λ (o : Option Action). (event_of tracks s e.track e.arena e.raw o).0) w.1 in
-    subst (λ (x : State). left_in tracks x < left_in tracks s) (sym then_is) (less tracks s e.track w.0 (effect s.held e.track w.0 e.arena e.raw) next.no_fault same w.1)
+    let r = act s.held e.track w.0 e.arena e.raw in
+    let then_is : (event tracks s e).0 ≡ settle tracks e.track s r =
+    ap (λ (o : Option Action). (event_of tracks s e.track e.arena e.raw o).0) w.1 in
+    subst (λ (x : State). left_in tracks x < left_in tracks s) (sym then_is)
+    (less tracks s e.track w.0 r next.no_fault same w.1)
 
 pub leaves_less : (tracks : List PlainTrack) (es : List Entry) (e : Entry) → IsNext tracks (last_state tracks es) e → left_in tracks (last_state tracks (es ++ e ∷ [])) < left_in tracks (last_state tracks es)
 leaves_less tracks es e next =

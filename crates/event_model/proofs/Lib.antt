@@ -1,3 +1,4 @@
+mod ActLaws
 pub mod CallerLemmas
 mod EffectLaws
 mod FaultLaws
@@ -11,4 +12,5 @@ mod PlanLaws
 mod ScheduleLaws
 mod SoundLaws
 mod TakenLaws
+mod TraceLaws
 mod WaitLaws

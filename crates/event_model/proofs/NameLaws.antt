@@ -1,5 +1,6 @@
 -- What names hold after an event.
-use Rattle.std.proofs.Common.{◌≡◌, ◌≢◌, ℕ, Bool, true, false, cond, List, Option, Some, None, refl, sym, ap, ◌∙◌, true≢false}
+use Rattle.std.proofs.Common.{◌≡◌, ◌≢◌, ℕ, Bool, true, false, cond, List, Option, Some, None, refl, sym, ap}
+use Rattle.std.proofs.Common.{◌∙◌, true≢false}
 use Rattle.mem_base.specs.Name.{Name}
 use Rattle.mem_base.specs.declared.history.Grant.{Grant}
 use Rattle.mem_base.specs.declared.history.Ask.{Ask}
@@ -13,10 +14,12 @@ use Rattle.map_model.specs.Map.{find}
 use Rattle.map_model.proofs.CallerLemmas.{find-hold_same}
 use Rattle.request_model.specs.Decision.{Decision, too_great, faults, asks, call_fault, request}
 use Rattle.event_model.specs.Blocks.{Home, Block}
-use Rattle.event_model.specs.Effects.{effect}
+use Rattle.event_model.specs.Effects.{act, effect}
 use Rattle.event_model.specs.Events.{event, event_of, settle, advance, next_action}
 use Rattle.event_model.specs.Laws.{OtherNamesKeepTheirs, OnlyOkChangesBlocks, CallsGive, FreeTakes}
-use Rattle.event_model.specs.Memory.{Turn, turn_to, room_for, finding_of, SizedCall, came_to, block_made, new_block, new_block_turn, stays_in_place, request_to_move, changed_body, given_body, move_block, change_turn, sized_turn, free_unless}
+use Rattle.event_model.specs.Memory.{Turn, turn_to, room_for, finding_of, SizedCall, came_to, block_made}
+use Rattle.event_model.specs.Memory.{new_block, new_block_turn, stays_in_place, request_to_move, changed_body}
+use Rattle.event_model.specs.Memory.{given_body, move_block, change_turn, sized_turn, free_unless}
 use Rattle.event_model.specs.Replies.{PlainReply, ok, busy, is_fault}
 use Rattle.event_model.specs.State.{Held, State, is_owner}
 use Rattle.event_model.proofs.EffectLaws.{effect_keeps_others, effect_keeps_unless_ok, reply_of, sized_is}
@@ -36,7 +39,8 @@ pub others_keep_theirs : OtherNamesKeepTheirs
 unfolding event
 others_keep_theirs tracks s e a name is other =
     ap (λ (o : Option Action). find (event_of tracks s e.track e.arena e.raw o).0.held.blocks name) is
-    ∙ settle_keeps tracks e.track s (effect s.held e.track a e.arena e.raw) name (effect_keeps_others s.held e.track a e.arena e.raw name other)
+    ∙ settle_keeps tracks e.track s (act s.held e.track a e.arena e.raw) name
+    (effect_keeps_others s.held e.track a e.arena e.raw name other)
 
 pub only_ok_changes : OnlyOkChangesBlocks
 unfolding event
@@ -44,7 +48,9 @@ only_ok_changes tracks s e name ne = by (next_action tracks s e.track) ne
   where
     by : (o : Option Action) → (event_of tracks s e.track e.arena e.raw o).1 ≢ ok → find (event_of tracks s e.track e.arena e.raw o).0.held.blocks name ≡ find s.held.blocks name
     by None ne = refl
-    by (Some a) ne = settle_keeps tracks e.track s (effect s.held e.track a e.arena e.raw) name (effect_keeps_unless_ok s.held e.track a e.arena e.raw name ne)
+    by (Some a) ne =
+        let r = act s.held e.track a e.arena e.raw in
+        settle_keeps tracks e.track s r name (effect_keeps_unless_ok s.held e.track a e.arena e.raw name ne)
 
 -- ---- what a name holds where the answer is ok
 
@@ -53,13 +59,13 @@ ok_leaves : (tracks : List PlainTrack) (s : State) (e : Entry) (a : Action) (nam
     → find (event tracks s e).0.held.blocks name ≡ find (effect s.held e.track a e.arena e.raw).0.blocks name
 unfolding event
 ok_leaves tracks s e a name is answer =
-    let r = effect s.held e.track a e.arena e.raw in
+    let r = act s.held e.track a e.arena e.raw in
     let none : is_fault r.1 ≡ false = ap is_fault (sym (reply_of tracks s e a is) ∙ answer) in
     ap (λ (o : Option Action). find (event_of tracks s e.track e.arena e.raw o).0.held.blocks name) is
     ∙ ap (λ (b : Bool). find (cond b (record s { faulted = true }) (advance tracks e.track s r.0)).held.blocks name) none
 
 -- a block with this body is held
-abbrev HoldsBody : Body → Option Block → Type 0
+abbrev pub HoldsBody : Body → Option Block → Type 0
 HoldsBody body o = (block : Block) × (o ≡ Some block) × (block.body ≡ body)
 
 new_gives : (call : SizedCall) (home : Option Home) (l : Layout) → (new_block call home l).answer ≡ ok → HoldsBody (fresh call.letter call.size call.fill) (new_block call home l).block
@@ -90,7 +96,8 @@ change_gives call arena raw l block asks answer = by (stays_in_place block (need
         let room = room_for l (request_to_move call block) arena raw in
         move_gives call block room.home room.layout answer
 
-sized_gives : (call : SizedCall) (locked : Bool) (arena : Grant) (raw : Ask) (l : Layout) (now : Option Block) → (sized_turn call locked arena raw l now).answer ≡ ok
+pub sized_gives : (call : SizedCall) (locked : Bool) (arena : Grant) (raw : Ask) (l : Layout) (now : Option Block)
+    → (sized_turn call locked arena raw l now).answer ≡ ok
     → HoldsBody (given_body call now) (sized_turn call locked arena raw l now).block
 sized_gives call locked arena raw l None answer = decision_gives call arena raw l (came_to call locked None) answer
 sized_gives call locked arena raw l (Some block) answer = by call.goes_on answer
@@ -115,7 +122,8 @@ calls_give tracks s e a name call is named sized answer =
       held.2,
     )
 
-free_held : (o : Option Fault) (l : Layout) (now : Option Block) → (free_unless o l now).answer ≡ ok → (free_unless o l now).block ≡ None
+pub free_held : (o : Option Fault) (l : Layout) (now : Option Block)
+    → (free_unless o l now).answer ≡ ok → (free_unless o l now).block ≡ None
 free_held None l None answer = refl
 free_held None l (Some block) answer = refl
 free_held (Some found) l None answer = refl

@@ -1,5 +1,6 @@
 -- Which turns answer null.
-use Rattle.std.proofs.Common.{◌≡◌, ℕ, ◌<◌, ◌≤◌, Bool, true, false, cond, Option, Some, None, IsNone, List, refl, sym, ap, ◌∙◌, inl, inr, ◌⊎◌, true≢false, arith}
+use Rattle.std.proofs.Common.{◌≡◌, ℕ, ◌<◌, ◌≤◌, Bool, true, false, cond, Option, Some, None, IsNone, List}
+use Rattle.std.proofs.Common.{refl, sym, ap, ◌∙◌, inl, inr, ◌⊎◌, true≢false, arith}
 use Rattle.std.specs.Prelude.{length, not, ◌||◌}
 use Rattle.std.proofs.lemmas.Bool.Decides.{leb_tells}
 use Rattle.mem_base.specs.declared.history.Grant.{Grant}
@@ -17,13 +18,21 @@ use Rattle.layout_model.specs.Layout.{Layout}
 use Rattle.layout_model.specs.Place.{place}
 use Rattle.layout_model.specs.Sizes.{is_small, class_of, need}
 use Rattle.layout_model.proofs.CallerLemmas.{only_refusals_place_nothing, requests_fit_their_class}
-use Rattle.request_model.specs.Decision.{Decision, too_great, faults, asks, move_request, request, request_after, max_size, max_data}
+use Rattle.request_model.specs.Decision.{Decision, too_great, faults, asks, move_request, request}
+use Rattle.request_model.specs.Decision.{request_after, max_size, max_data}
 use Rattle.request_model.proofs.CallerLemmas.{Decides, over_all, faulty, over_data, within, decides}
+use Rattle.tracing_model.specs.Traces.{TraceOf}
+use Rattle.tracing_model.specs.Tracing.{Tracing}
 use Rattle.event_model.specs.Blocks.{Home, Block, is_pooled}
 use Rattle.event_model.specs.Lock.{acquire_turn, release_turn}
-use Rattle.event_model.specs.Memory.{Turn, turn_to, Room, raw_home, pool_home, small_room, room_for, finding_of, SizedCall, fault_of, came_to, is_busy, new_block, new_block_turn, stays_in_place, request_to_move, move_block, change_turn, sized_turn, request_to_change, sized_request, free_unless, poke_turn, peek_turn}
+use Rattle.event_model.specs.Memory.{Turn, turn_to, Room, raw_home, pool_home, small_room, room_for}
+use Rattle.event_model.specs.Memory.{finding_of, SizedCall, fault_of, came_to, is_busy, new_block}
+use Rattle.event_model.specs.Memory.{new_block_turn, stays_in_place, request_to_move, move_block, change_turn}
+use Rattle.event_model.specs.Memory.{sized_turn, request_to_change, sized_request, free_unless, poke_turn}
+use Rattle.event_model.specs.Memory.{peek_turn}
 use Rattle.event_model.specs.Replies.{PlainReply, ok, null, busy, held, not_held, outside, bytes, fault_in, is_fault}
 use Rattle.event_model.specs.State.{is_owner}
+use Rattle.event_model.specs.Tracing.{mark_answer, trace_answer}
 use Rattle.event_model.proofs.LayoutLaws.{change_by}
 
 -- ---- turns that never answer null
@@ -68,6 +77,14 @@ pub peek_null : (offset : _) (count : ℕ) (l : Layout) (now : Option Block) →
 peek_null offset count l None h = absurd cc
 peek_null offset count l (Some block) h =
     either_null l (Some block) (Some block) (bytes (peeked block.body offset count)) outside (reaches block.body offset count) (λ e. absurd cc) (λ e. absurd cc) h
+
+pub mark_null : (tracing : Option Tracing) → mark_answer tracing ≡ null → ⊥
+mark_null None h = absurd cc
+mark_null (Some t) h = absurd cc
+
+pub trace_null : (o : Option TraceOf) → trace_answer o ≡ null → ⊥
+trace_null None h = absurd cc
+trace_null (Some t) h = absurd cc
 
 -- ---- a request without room
 

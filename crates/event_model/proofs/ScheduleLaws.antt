@@ -1,5 +1,6 @@
 -- The schedule takes one track, and a history is its own schedule.
-use Rattle.std.proofs.Common.{◌≡◌, ℕ, ◌+◌, ◌≤◌, Bool, true, false, cond, List, [], ◌∷◌, ◌++◌, map, replicate, refl, sym, ap, subst, ◌∙◌, inl, inr, arith, true≢false, add-one}
+use Rattle.std.proofs.Common.{◌≡◌, ℕ, ◌+◌, ◌≤◌, Bool, true, false, cond, List, [], ◌∷◌, ◌++◌, map, replicate}
+use Rattle.std.proofs.Common.{refl, sym, ap, subst, ◌∙◌, inl, inr, arith, true≢false, add-one}
 use Rattle.std.specs.Prelude.{◌==◌}
 use Rattle.std.specs.List.{AllByRecursion}
 use Rattle.std.proofs.lemmas.Bool.{cases_lt}
@@ -9,7 +10,8 @@ use Rattle.mem_base.specs.declared.history.Entry.{Entry}
 use Rattle.trace_model.specs.Plain.{PlainTrack}
 use Rattle.event_model.specs.Events.{is_ready, event}
 use Rattle.event_model.specs.History.{opening, state_after, IsLegalFrom, IsLegal}
-use Rattle.event_model.specs.Schedule.{one_by_one, NoneIsReady, IsPicked, IsFirstReady, Takes, FollowsFrom, Follows, in_front, runs, NeighboursDiffer}
+use Rattle.event_model.specs.Schedule.{one_by_one, NoneIsReady, IsPicked, IsFirstReady, Takes, FollowsFrom}
+use Rattle.event_model.specs.Schedule.{Follows, in_front, runs, NeighboursDiffer}
 use Rattle.event_model.specs.State.{State}
 
 -- ---- one track

@@ -1,5 +1,6 @@
 -- No more arenas are granted and no more pools taken than there are events.
-use Rattle.std.proofs.Common.{ℕ, ◌+◌, ◌≤◌, Bool, true, false, cond, not, ◌&&◌, eqb, List, [], ◌∷◌, length, get_or, set, Option, Some, None, arith}
+use Rattle.std.proofs.Common.{ℕ, ◌+◌, ◌≤◌, Bool, true, false, cond, not, ◌&&◌, eqb, List, [], ◌∷◌, length}
+use Rattle.std.proofs.Common.{get_or, set, Option, Some, None, arith}
 use Rattle.std.proofs.lemmas.List.{length-set, length-append}
 use Rattle.mem_base.specs.declared.history.Grant.{Grant}
 use Rattle.mem_base.specs.declared.history.Grant.TheVariants.{NotAsked, Refused, Granted}
@@ -8,7 +9,9 @@ use Rattle.trace_model.specs.Plain.{PlainTrack}
 use Rattle.layout_model.specs.Layout.{Layout, Usable, Used, Full}
 use Rattle.layout_model.specs.Place.{place_by, pools_of_class}
 use Rattle.layout_model.specs.Sizes.{capacity, class_of}
-use Rattle.layout_model.specs.Unplace.{find_class, find_pool, find_arena, is_last, lowered, without_pool, without_arena, put_arena, pool_back, arena_back_by, arena_back, unplace_used, unplace_by}
+use Rattle.layout_model.specs.Unplace.{find_class, find_pool, find_arena, is_last, lowered, without_pool}
+use Rattle.layout_model.specs.Unplace.{without_arena, put_arena, pool_back, arena_back_by, arena_back}
+use Rattle.layout_model.specs.Unplace.{unplace_used, unplace_by}
 use Rattle.event_model.specs.Events.{event}
 use Rattle.event_model.specs.History.{opening, state_after}
 use Rattle.event_model.specs.Laws.{FewAreTaken}

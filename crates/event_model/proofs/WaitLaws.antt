@@ -1,13 +1,16 @@
 -- Where no track is ready, nothing is left to do: the owner of the lock always has an operation left, and never waits.
-use Rattle.std.proofs.Common.{◌≡◌, ℕ, suc, ◌+◌, ◌<◌, ◌≤◌, Bool, true, false, cond, not, ◌&&◌, List, [], ◌∷◌, length, slice_get, set, Option, Some, None, refl, sym, ap, ◌∙◌, inl, inr, ◌⊎◌, arith, true≢false}
+use Rattle.std.proofs.Common.{◌≡◌, ℕ, suc, ◌+◌, ◌<◌, ◌≤◌, Bool, true, false, cond, not, ◌&&◌, List, [], ◌∷◌}
+use Rattle.std.proofs.Common.{length, slice_get, set, Option, Some, None, refl, sym, ap, ◌∙◌, inl, inr, ◌⊎◌}
+use Rattle.std.proofs.Common.{arith, true≢false}
 use Rattle.std.specs.Prelude.{slice_index, is_some}
 use Rattle.std.proofs.lemmas.Bool.Decides.{eqb_tells}
 use Rattle.std.proofs.lemmas.List.{get_or-set_same, get_or-set_other}
 use Rattle.std.proofs.lemmas.Option.{slice_get_cases, slice_get_within}
 use Rattle.mem_base.specs.declared.history.Entry.{Entry}
 use Rattle.trace_model.specs.Plain.{Action, PlainTrack}
-use Rattle.event_model.specs.Effects.{effect}
-use Rattle.event_model.specs.Events.{event, event_of, settle, advance, let_go, action_after, next_action, may_do, is_ready, ops_left}
+use Rattle.event_model.specs.Effects.{act}
+use Rattle.event_model.specs.Events.{event, event_of, settle, advance, let_go, action_after, next_action}
+use Rattle.event_model.specs.Events.{may_do, is_ready, ops_left}
 use Rattle.event_model.specs.History.{opening, state_after, last_state, IsDone}
 use Rattle.event_model.specs.Laws.{OnlyAcquireWaits, OwnersGoOn, NoneReadyIsAllDone}
 use Rattle.event_model.specs.Replies.{PlainReply, is_fault}
@@ -64,7 +67,8 @@ event_goes_on tracks s e same goes = by (next_action tracks s e.track) refl
     by (Some a) is =
         let there = at_track (slice_get tracks e.track) (slice_index s.done e.track) a is in
         let within : e.track < length s.done = omega (arith, same, slice_get_within tracks e.track there.0 there.1) in
-        settle_goes_on tracks e.track s (effect s.held e.track a e.arena e.raw) within goes (owner_after s.held e.track a e.arena e.raw)
+        let r = act s.held e.track a e.arena e.raw in
+        settle_goes_on tracks e.track s r within goes (owner_after s.held e.track a e.arena e.raw)
 
 -- ---- a history
 

@@ -1,5 +1,6 @@
 -- Which track may go on, and one event: what an operation leaves, and the count of what is done.
-use Rattle.std.specs.Prelude.{ℕ, ◌+◌, ◌-◌, Bool, true, false, not, ◌&&◌, if◌then◌else◌, List, [], ◌∷◌, length, slice_get, slice_set, slice_index, Option, Some, None, is_some}
+use Rattle.std.specs.Prelude.{ℕ, ◌+◌, ◌-◌, Bool, true, false, not, ◌&&◌, if◌then◌else◌, List, [], ◌∷◌, length}
+use Rattle.std.specs.Prelude.{slice_get, slice_set, slice_index, Option, Some, None, is_some}
 use Rattle.std.specs.Option.{option_and_then}
 use Rattle.mem_base.specs.declared.history.Grant.{Grant}
 use Rattle.mem_base.specs.declared.history.Ask.{Ask}
@@ -7,7 +8,7 @@ use Rattle.mem_base.specs.declared.history.Entry.{Entry}
 use Rattle.layout_model.specs.Asks.{Request}
 use Rattle.layout_model.specs.Asks.Request.{NoRequest}
 use Rattle.trace_model.specs.Plain.{Action, PlainTrack}
-use Rattle.event_model.specs.Effects.{effect, may_do_next, request_of}
+use Rattle.event_model.specs.Effects.{act, may_do_next, request_of}
 use Rattle.event_model.specs.Replies.{PlainReply, unsaid, is_fault}
 use Rattle.event_model.specs.State.{Held, State, is_owner}
 
@@ -46,7 +47,7 @@ settle tracks t s r = if is_fault r.1 then record s { faulted = true } else adva
 -- the event of track t, whose next operation is this or none, with these answers of the sources
 abbrev pub event_of : List PlainTrack → State → ℕ → Grant → Ask → Option Action → State × PlainReply
 event_of tracks s t arena raw None = (s, unsaid)
-event_of tracks s t arena raw (Some a) = let r = effect s.held t a arena raw in (settle tracks t s r, r.1)
+event_of tracks s t arena raw (Some a) = let r = act s.held t a arena raw in (settle tracks t s r, r.1)
 
 -- the next event of the entry's track, with the answers of the entry: the state after it, and its reply
 unfoldable pub event : List PlainTrack → State → Entry → State × PlainReply

@@ -6,18 +6,25 @@ use Rattle.mem_base.specs.declared.reply.Counts.{Counts}
 use Rattle.trace_model.specs.Plain.{PlainTrack}
 use Rattle.layout_model.specs.Asks.{Request, FitsRequest}
 use Rattle.layout_model.specs.Layout.{empty_layout}
+use Rattle.tracing_model.specs.Tracing.{peak, traced_now}
 use Rattle.event_model.specs.Blocks.{total_size, pool_count}
 use Rattle.event_model.specs.Events.{is_ready, next_action, next_request, event}
 use Rattle.event_model.specs.Replies.{is_fault}
 use Rattle.event_model.specs.State.{Held, State}
 
--- nothing is held
-abbrev pub nothing_held : Held
-nothing_held = record { blocks = []; layout = empty_layout; owner = None }
+-- nothing is held by these tracks
+abbrev pub nothing_held : List PlainTrack → Held
+nothing_held tracks = record {
+  blocks = [];
+  layout = empty_layout;
+  owner = None;
+  frames = map (λ t. []) tracks;
+  tracing = None;
+}
 
 -- nothing is held, and nothing is done
 abbrev pub opening : List PlainTrack → State
-opening tracks = record { held = nothing_held; done = map (λ t. 0) tracks; faulted = false }
+opening tracks = record { held = nothing_held tracks; done = map (λ t. 0) tracks; faulted = false }
 
 -- the state that events lead to
 abbrev pub state_after : List PlainTrack → State → List Entry → State
@@ -83,6 +90,6 @@ totals_of tracks es = let h = (last_state tracks es).held in record {
   blocks = length h.blocks;
   bytes = total_size h.blocks;
   counts = counts_of h;
-  traced = 0;
-  peak = 0;
+  traced = traced_now h.tracing;
+  peak = peak h.tracing;
 }

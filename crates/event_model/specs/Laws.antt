@@ -1,5 +1,6 @@
 -- Laws over histories.
-use Rattle.std.specs.Prelude.{◌≡◌, ◌≢◌, ◌↔◌, ◌⊎◌, ℕ, ◌+◌, ◌<◌, ◌≤◌, Bool, true, false, List, [], ◌∷◌, ◌++◌, map, length, Some, None, is_some}
+use Rattle.std.specs.Prelude.{◌≡◌, ◌≢◌, ◌↔◌, ◌⊎◌, ℕ, ◌+◌, ◌<◌, ◌≤◌, Bool, true, false, List, [], ◌∷◌, ◌++◌}
+use Rattle.std.specs.Prelude.{map, length, Some, None, is_some}
 use Rattle.std.specs.List.{AllByRecursion}
 use Rattle.mem_base.specs.Plan.{Plan, IsPlanned}
 use Rattle.mem_base.specs.declared.history.Entry.{Entry}
@@ -11,6 +12,8 @@ use Rattle.trace_model.specs.Plain.{Action, acquire, free, PlainTrack, name_of}
 use Rattle.trace_model.specs.Spelling.{action_count}
 use Rattle.layout_model.specs.Sound.{IsSound}
 use Rattle.map_model.specs.Map.{find}
+use Rattle.block_model.specs.Block.{size_of}
+use Rattle.tracing_model.specs.Traces.{of_block, TraceOf}
 use Rattle.request_model.specs.Counts.{asked_in, asks_in, refusals_in}
 use Rattle.request_model.specs.Decision.{max_data, max_size}
 use Rattle.event_model.specs.Blocks.{Block}
@@ -22,6 +25,7 @@ use Rattle.event_model.specs.Plans.{GrowsBy, Heeds, is_planned, lists}
 use Rattle.event_model.specs.Replies.{ok, null, is_fault}
 use Rattle.event_model.specs.Schedule.{one_by_one, Takes, FollowsTo, Follows, runs, NeighboursDiffer}
 use Rattle.event_model.specs.State.{State, Held, is_owner}
+use Rattle.event_model.specs.Tracing.{trace_in}
 
 -- ---- one more entry
 
@@ -195,3 +199,12 @@ abbrev pub FewAreTaken : Type 0
 FewAreTaken = (tracks : List PlainTrack) (es : List Entry)
     → ((last_state tracks es).held.layout.given ≤ length es)
     × (length (last_state tracks es).held.layout.full ≤ length es)
+
+-- ---- traces
+
+-- a trace under a block's name belongs to a live block of that name, and has as many bytes as its data
+abbrev pub TracesAreOfBlocks : Type 0
+TracesAreOfBlocks = (tracks : List PlainTrack) (es : List Entry) (name : Name) (trace : TraceOf)
+    → IsLegal tracks es → trace_in (last_state tracks es).held.tracing (of_block name) ≡ Some trace
+    → (block : Block) × (find (last_state tracks es).held.blocks name ≡ Some block)
+    × (size_of block.body ≡ trace.size)

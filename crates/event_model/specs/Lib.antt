@@ -1,6 +1,7 @@
 pub mod Blocks
 pub mod Effects
 pub mod Events
+pub mod Frames
 pub mod History
 pub mod Laws
 pub mod Lock
@@ -10,3 +11,4 @@ pub mod Replies
 pub mod Schedule
 pub mod Shape
 pub mod State
+pub mod Tracing

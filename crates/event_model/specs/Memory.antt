@@ -1,6 +1,7 @@
 -- The memory operations: what malloc, calloc, realloc, free, poke and peek do to the block of one name and to the
 -- layout.
-use Rattle.std.specs.Prelude.{ℕ, ◌*◌, ℤ, Bool, true, false, not, ◌&&◌, if◌then◌else◌, List, length, Option, Some, None}
+use Rattle.std.specs.Prelude.{ℕ, ◌*◌, ℤ, Bool, true, false, not, ◌&&◌, if◌then◌else◌, List, length, Option}
+use Rattle.std.specs.Prelude.{Some, None}
 use Rattle.mem_base.specs.declared.trace.Letter.{Letter}
 use Rattle.mem_base.specs.declared.history.Grant.{Grant}
 use Rattle.mem_base.specs.declared.history.Ask.{Ask}
@@ -13,7 +14,8 @@ use Rattle.layout_model.specs.Layout.{Layout}
 use Rattle.layout_model.specs.Place.{Placed, place}
 use Rattle.layout_model.specs.Sizes.{class_of, is_small, need}
 use Rattle.layout_model.specs.Unplace.{unplace}
-use Rattle.request_model.specs.Decision.{Decision, too_great, faults, asks, call_fault, decision, fits_in_place, move_request, request, request_after}
+use Rattle.request_model.specs.Decision.{Decision, too_great, faults, asks, call_fault, decision}
+use Rattle.request_model.specs.Decision.{fits_in_place, move_request, request, request_after}
 use Rattle.event_model.specs.Blocks.{Home, in_pool, in_raw, Block, is_pooled, len_at}
 use Rattle.event_model.specs.Replies.{PlainReply, ok, null, busy, absent, outside, bytes, fault, fault_in}
 

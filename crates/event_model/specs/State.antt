@@ -1,5 +1,7 @@
 -- All that is held at one moment of a run.
 use Rattle.std.specs.Prelude.{ℕ, Bool, false, ◌==◌, List, Option, Some, None}
+use Rattle.frame_model.specs.Frames.{PlainFrame}
+use Rattle.tracing_model.specs.Tracing.{Tracing}
 use Rattle.layout_model.specs.Layout.{Layout}
 use Rattle.event_model.specs.Blocks.{Blocks}
 
@@ -10,6 +12,10 @@ pub record Held : Type 0 where
   pub layout : Layout
   -- the track that owns the lock
   pub owner : Option ℕ
+  -- the frames of each track, oldest first
+  pub frames : List (List PlainFrame)
+  -- the traces of blocks and of marked numbers, while anything is traced
+  pub tracing : Option Tracing
 
 -- a run between two events
 pub record State : Type 0 where

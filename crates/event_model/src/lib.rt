@@ -5,11 +5,11 @@
 //!
 //! | Part | Holds | Changes |
 //! |---|---|---|
-//! | `held` | the blocks by name, the layout of pools and arenas, the owner of the lock | by an operation |
+//! | `held` | blocks by name, layout of pools and arenas, the lock's owner, frames, what is traced | by an operation |
 //! | `done` | how many operations each track has done | after each event that is no fault |
 //! | `faulted` | whether a fault has come | with the first fault, which is the last event |
 //!
-//! An event is the next operation of a track, with what the sources answered. It comes in three steps:
+//! An event is the next operation of a track, with what the sources answered. It comes in four steps:
 //!
 //! 1. `effect` says what the operation does to `held` and answers. It sees nothing else, so no operation
 //!    can change `done` or `faulted`. An operation of a family works on that family's part alone:
@@ -19,12 +19,40 @@
 //!      case, a call for a block: its domain, its size, what new data holds, and whether it goes on from
 //!      the block that its name holds;
 //!    - the lock (`acquire`, `release`): its owner, as `take_gil` and `drop_gil` do;
+//!    - frames (`call`, `line`, `return`): the frames of its track, which are the call stack that
+//!      `traceback_get_frames` reads. A line or a return of a track without frames changes nothing;
+//!    - tracing (`start`, `stop`, `clear`, `reset_peak`, `traced`, `mark`, `unmark`, `where`): nothing here.
+//!      `traced` answers what `_PyTraceMalloc_GetTracedMemory` does, and `where` what is kept under a
+//!      block's name, as `_PyTraceMalloc_GetObjectTraceback` does;
 //!    - the heap's shape (`heap`): nothing, it reads what `_PyObject_DebugMallocStats` does;
 //!    - refusals (`refuse`): nothing, the plan of refusals takes down which requests it lists.
-//! 2. `settle` looks at the answer. A fault leaves all as it was, but that it has come: where the hooks
+//! 2. `follow` says what is traced then, by the operation, its reply and the frames of its track alone. So
+//!    tracing watches the calls of the allocator from outside, as the hooks of tracemalloc do, and none of
+//!    the other families knows of it. While anything is traced,
+//!    - a call for a block that answers ok gives the block's name a trace of as many bytes as were asked
+//!      for, with the most recent frames (`tracemalloc_alloc`, `tracemalloc_realloc`), and a free that
+//!      answers ok takes it away (`tracemalloc_free`);
+//!    - `mark` gives a number in a domain a trace and `unmark` takes it away, as `PyTraceMalloc_Track` and
+//!      `PyTraceMalloc_Untrack` do;
+//!    - after each event the bytes that are traced count for the peak.
+//!
+//!    `start`, `stop`, `clear` and `reset_peak` do what their functions in tracemalloc do.
+//! 3. `settle` looks at the answer. A fault leaves all as it was, but that it has come: where the hooks
 //!    end the process, the run ends, and what they met can be told.
-//! 3. After any other answer `advance` counts the operation as done, and a track that has done its last
+//! 4. After any other answer `advance` counts the operation as done, and a track that has done its last
 //!    one lets go of the lock.
+//!
+//! `act` is the first two steps. Frames and traces, by an example, where a trace keeps two frames:
+//!
+//! ```text
+//! operation            frames of the track             traces
+//! start 2              -                               -
+//! call main.py 3       main.py:3                       -
+//! call read.py 7       main.py:3 read.py:7             -
+//! malloc m x 100       main.py:3 read.py:7             x: 100 bytes, main.py:3 read.py:7
+//! return               main.py:3                       x: 100 bytes, main.py:3 read.py:7
+//! free m x             main.py:3                       -
+//! ```
 //!
 //! Which track does the next event is the schedule's choice. A trace has picks, a list of tracks, and the
 //! schedule passes over those that are not ready and takes the first that is. Where no pick is left, it is
@@ -37,7 +65,13 @@
 //! those before it.
 #![tactic(auto)]
 
-ghost use Rattle.event_model.specs.Laws.{OneMoreIsLegal, OneMoreState, OneMoreLeavesLess, LegalIsShort, FaultsChangeNothing, OthersBringNoFault, FaultIsLast, OtherNamesKeepTheirs, OnlyOkChangesBlocks, CallsGive, FreeTakes, OnlyAcquireWaits, OwnersGoOn, NoneReadyIsAllDone, TakesOne, OneMoreFollows, RunsAreStretches, LegalFollowsItsRuns, OneMoreIsPlanned, OneMoreHeeds, NullExactly, LegalIsSound, FewAreTaken};
+ghost use Rattle.event_model.specs.Laws.{OneMoreIsLegal, OneMoreState, OneMoreLeavesLess, LegalIsShort};
+ghost use Rattle.event_model.specs.Laws.{FaultsChangeNothing, OthersBringNoFault, FaultIsLast};
+ghost use Rattle.event_model.specs.Laws.{OtherNamesKeepTheirs, OnlyOkChangesBlocks, CallsGive};
+ghost use Rattle.event_model.specs.Laws.{FreeTakes, OnlyAcquireWaits, OwnersGoOn, NoneReadyIsAllDone};
+ghost use Rattle.event_model.specs.Laws.{TakesOne, OneMoreFollows, RunsAreStretches};
+ghost use Rattle.event_model.specs.Laws.{LegalFollowsItsRuns, OneMoreIsPlanned, OneMoreHeeds};
+ghost use Rattle.event_model.specs.Laws.{NullExactly, LegalIsSound, FewAreTaken, TracesAreOfBlocks};
 
 /// A legal history with one more entry that may come next is legal, leads to that entry's event, and
 /// leaves less to do.
@@ -116,4 +150,9 @@ pub fn legal_layouts_are_sound()
 /// No more arenas are granted and no more pools taken than there are events.
 pub fn few_are_taken()
     ensures { FewAreTaken }
+{}
+
+/// A trace under a block's name belongs to a live block of that name, and has as many bytes as its data.
+pub fn traces_belong_to_blocks()
+    ensures { TracesAreOfBlocks }
 {}

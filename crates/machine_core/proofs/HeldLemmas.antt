@@ -1,5 +1,7 @@
 -- What an operation does to what is held, by number and by name.
-use Rattle.std.proofs.Common.{◌≡◌, ℕ, ◌<◌, Bool, true, false, cond, List, length, set, Option, Some, None, Result, Ok, Err, ℤ, pos, negsuc, to_z, of_z, w64, refl, sym, ap, subst, ◌∙◌, arith, true≢false}
+use Rattle.std.proofs.Common.{◌≡◌, ℕ, ◌<◌, Bool, true, false, cond, List, length, map, set, Option, Some}
+use Rattle.std.proofs.Common.{None, Result, Ok, Err, ℤ, pos, negsuc, to_z, of_z, w64, refl, sym, ap, subst}
+use Rattle.std.proofs.Common.{◌∙◌, arith, true≢false}
 use Rattle.std.specs.Prelude.{IfOk}
 use Rattle.std.specs.declared.alloc.AllocError.{AllocError}
 use Rattle.std.proofs.lemmas.List.{set-get_or}
@@ -27,21 +29,29 @@ use Rattle.layout_model.specs.Layout.{Layout}
 use Rattle.layout_model.specs.Sizes.{need}
 use Rattle.layout_model.specs.View.{shape_of}
 use Rattle.request_model.specs.Decision.{Decision, too_great, faults, asks, call_fault, request}
-use Rattle.event_model.specs.Blocks.{Block, Home}
+use Rattle.event_model.specs.Blocks.{Block, Blocks, Home}
 use Rattle.event_model.specs.Effects.{effect, on_block, request_of, sized_call}
 use Rattle.event_model.specs.Lock.{acquire_turn, release_turn}
-use Rattle.event_model.specs.Memory.{SizedCall, Turn, calloc_call, came_to, change_turn, changed_body, finding_of, free_turn, free_unless, malloc_call, move_block, request_to_move, new_block, new_block_turn, peek_turn, poke_turn, realloc_call, room_for, sized_request, stays_in_place, turn_to}
-use Rattle.event_model.specs.Replies.{PlainReply, busy, held as held_reply, not_held, ok, outside, bytes, is_fault, plain_reply}
+use Rattle.event_model.specs.Memory.{SizedCall, Turn, calloc_call, came_to, change_turn, changed_body}
+use Rattle.event_model.specs.Memory.{finding_of, free_turn, free_unless, malloc_call, move_block}
+use Rattle.event_model.specs.Memory.{request_to_move, new_block, new_block_turn, peek_turn, poke_turn}
+use Rattle.event_model.specs.Memory.{realloc_call, room_for, sized_request, stays_in_place, turn_to}
+use Rattle.event_model.specs.Replies.{PlainReply, busy, held as held_reply, not_held, ok, outside, bytes}
+use Rattle.event_model.specs.Replies.{frames_of, is_fault, plain_reply}
 use Rattle.event_model.specs.State.{Held, is_owner}
+use Rattle.event_model.specs.Tracing.{change_of}
 use Rattle.event_model.proofs.CallerLemmas.{sized_asks, sized_is}
+use Rattle.tracing_model.specs.Tracing.{keeps}
 use Rattle.domain_api.specs.Domains.{not_asked}
 use Rattle.domain_api.specs.declared.answers.Asked.{Asked}
 use Rattle.block_store.specs.Store.{FitsCall, IsTurn, block_at, pooled_in, raw_in, shape_in, sized_by}
 use Rattle.block_store.specs.declared.answer.Answer.{Answer}
 use Rattle.block_store.specs.declared.answer.Call.{Call}
-use Rattle.machine_core.specs.Acts.{Acts, left_by}
+use Rattle.machine_core.specs.Acts.{Acts, Affects, left_by}
 use Rattle.machine_core.specs.Held.{Holds, StandsFor}
+use Rattle.machine_core.specs.Traces.{TracesStand}
 use Rattle.machine_core.specs.declared.held.Held.{Held as Holding}
+use Rattle.machine_core.proofs.FollowLemmas.{kept}
 use Rattle.machine_core.proofs.NameLemmas.{hold_holds, name_holds}
 
 -- ---- operations on one block
@@ -50,8 +60,20 @@ use Rattle.machine_core.proofs.NameLemmas.{hold_holds, name_holds}
 abbrev pub StaysAtFault : (Layout → Option Block → Turn) → Type 0
 StaysAtFault f = (l : Layout) (now : Option Block) → is_fault (f l now).answer ≡ true → ((f l now).block ≡ now) × ((f l now).layout ≡ l)
 
+-- all but the store is as it was
+with_store : (texts : List Name) (h : Held) (old new : Holding) (blocks : Blocks) (layout : Layout) → StandsFor texts old h → new ≡ record old { store = new.store }
+    → Holds texts new.store.blocks blocks → new.store.layout ≡ layout → StandsFor texts new (record h { blocks = blocks; layout = layout })
+with_store texts h old new blocks layout stands others holds laid = record {
+  blocks = holds;
+  layout = laid;
+  owner = ap (λ (n : Holding). n.owner) others ∙ stands.owner;
+  files = ap (λ (n : Holding). n.callers.files) others ∙ stands.files;
+  frames = stands.frames ∙ ap (λ (n : Holding). map (frames_of texts) n.callers.frames) (sym others);
+  traces = subst (λ (n : Holding). TracesStand texts n.callers.table n.tracing h.tracing) (sym others) stands.traces;
+}
+
 module _ (texts : List Name) (h : Held) (old new : Holding) (name : TextId) (f : Layout → Option Block → Turn) (reply : Reply)
-    (distinct : IsDistinct texts) (stands : StandsFor texts old h) (lt : name.0 < length old.store.blocks) (turn : IsTurn name.0 f old.store new.store reply) (owned : new.owner ≡ old.owner) where
+    (distinct : IsDistinct texts) (stands : StandsFor texts old h) (lt : name.0 < length old.store.blocks) (turn : IsTurn name.0 f old.store new.store reply) (others : new ≡ record old { store = new.store }) where
   abbrev by_name : Held × PlainReply
   by_name = on_block h (text_at texts name) f
 
@@ -66,22 +88,19 @@ module _ (texts : List Name) (h : Held) (old new : Holding) (name : TextId) (f :
   turn_answers = turn.answer texts ∙ ap (λ (t : Turn). t.answer) (sym same)
 
   turn_stands : StandsFor texts new by_name.0
-  turn_stands = record {
-    blocks = subst (λ (t : Turn). Holds texts new.store.blocks (hold h.blocks (text_at texts name) t.block)) (sym same)
-        (subst (λ (l : List (Option Block)). Holds texts l (hold h.blocks (text_at texts name) (f old.store.layout (block_at old.store name.0)).block)) (sym turn.blocks)
-        (hold_holds texts old.store.blocks h.blocks name (f old.store.layout (block_at old.store name.0)).block distinct stands.blocks lt));
-    layout = turn.layout ∙ ap (λ (t : Turn). t.layout) (sym same);
-    owner = owned ∙ stands.owner;
-  }
+  turn_stands =
+      with_store texts h old new by_name.0.blocks by_name.0.layout stands others
+      (subst (λ (t : Turn). Holds texts new.store.blocks (hold h.blocks (text_at texts name) t.block)) (sym same)
+      (subst (λ (l : List (Option Block)). Holds texts l (hold h.blocks (text_at texts name) (f old.store.layout (block_at old.store name.0)).block)) (sym turn.blocks)
+      (hold_holds texts old.store.blocks h.blocks name (f old.store.layout (block_at old.store name.0)).block distinct stands.blocks lt)))
+      (turn.layout ∙ ap (λ (t : Turn). t.layout) (sym same))
 
   fault_stands : StaysAtFault f → is_fault (f old.store.layout (block_at old.store name.0)).answer ≡ true → StandsFor texts new h
   fault_stands stays fell =
       let kept = stays old.store.layout (block_at old.store name.0) fell in
-      record {
-        blocks = subst (λ (l : List (Option Block)). Holds texts l h.blocks) (sym (turn.blocks ∙ ap (set old.store.blocks name.0) kept.0 ∙ set-get_or old.store.blocks name.0 None)) stands.blocks;
-        layout = turn.layout ∙ kept.1 ∙ stands.layout;
-        owner = owned ∙ stands.owner;
-      }
+      with_store texts h old new h.blocks h.layout stands others
+      (subst (λ (l : List (Option Block)). Holds texts l h.blocks) (sym (turn.blocks ∙ ap (set old.store.blocks name.0) kept.0 ∙ set-get_or old.store.blocks name.0 None)) stands.blocks)
+      (turn.layout ∙ kept.1 ∙ stands.layout)
 
   pub turn_left : StaysAtFault f → StandsFor texts new (left_by h by_name)
   turn_left stays = by (is_fault by_name.1) refl
@@ -179,10 +198,10 @@ abbrev pub IsCallFor : Op → TextId → SizedCall → Type 0
 IsCallFor op name call =
     (texts : List Name) → (name_of (action_of texts op) ≡ Some (text_at texts name)) × (sized_call (action_of texts op) ≡ Some call)
 
-module _ (t : ℕ) (op : Op) (old new : Holding) (reply : Reply) (owned : new.owner ≡ old.owner) where
-  pub sized_acts : (name : TextId) (call : SizedCall) (locked : Bool) (asked : Asked) → IsCallFor op name call → locked ≡ is_owner old.owner t
-      → name.0 < length old.store.blocks → IsTurn name.0 (sized_by call locked asked) old.store new.store reply → FitsCall old.store name.0 call locked asked → Acts t op old new asked reply
-  sized_acts name call locked asked is owns lt turn fits = λ texts h distinct stands.
+module _ (t : ℕ) (op : Op) (old new : Holding) (reply : Reply) (others : new ≡ record old { store = new.store }) where
+  pub sized_affects : (name : TextId) (call : SizedCall) (locked : Bool) (asked : Asked) → IsCallFor op name call → locked ≡ is_owner old.owner t
+      → name.0 < length old.store.blocks → IsTurn name.0 (sized_by call locked asked) old.store new.store reply → FitsCall old.store name.0 call locked asked → Affects t op old new asked reply
+  sized_affects name call locked asked is owns lt turn fits = λ texts h table stands.
       let a = action_of texts op in
       let mine : locked ≡ is_owner h.owner t = owns ∙ ap (λ (o : Option ℕ). is_owner o t) stands.owner in
       let f = sized_by call (is_owner h.owner t) asked in
@@ -192,43 +211,44 @@ module _ (t : ℕ) (op : Op) (old new : Holding) (reply : Reply) (owned : new.ow
       let there = name_holds texts old.store.blocks h.blocks name stands.blocks lt in
       let same = sym (sized_is h t a asked.arena asked.raw (text_at texts name) call (is texts).0 (is texts).1) in
       record {
-        held = subst (λ (r : Held × PlainReply). StandsFor texts new (left_by h r)) same (turn_left texts h old new name f reply distinct stands lt now owned (sized_stays call (is_owner h.owner t) asked));
-        answer = turn_answers texts h old new name f reply distinct stands lt now owned ∙ ap (λ (r : Held × PlainReply). r.1) same;
+        held = subst (λ (r : Held × PlainReply). StandsFor texts new (left_by h r)) same
+            (turn_left texts h old new name f reply table.distinct stands lt now others (sized_stays call (is_owner h.owner t) asked));
+        answer = turn_answers texts h old new name f reply table.distinct stands lt now others ∙ ap (λ (r : Held × PlainReply). r.1) same;
         fits = subst (λ (r : Request). FitsRequest h.layout r asked.arena asked.raw) (sym (sized_asks h t a (text_at texts name) call (is texts).0 (is texts).1))
             (subst (λ (l : Layout). FitsRequest l (sized_request call (is_owner h.owner t) (find h.blocks (text_at texts name))) asked.arena asked.raw) stands.layout
             (subst (λ (o : Option Block). FitsRequest old.store.layout (sized_request call (is_owner h.owner t) o) asked.arena asked.raw) (sym there) fit));
       }
 
-  pub free_acts : (letter : Letter) (name : TextId) (call : Call) → op ≡ ops.Free letter name → call ≡ record { letter = letter; locked = is_owner old.owner t }
-      → name.0 < length old.store.blocks → IsTurn name.0 (free_turn call.letter call.locked) old.store new.store reply → Acts t op old new not_asked reply
-  free_acts letter name call is called lt turn =
-      subst (λ (o : Op). Acts t o old new not_asked reply) (sym is) (λ texts h distinct stands.
+  pub free_affects : (letter : Letter) (name : TextId) (call : Call) → op ≡ ops.Free letter name → call ≡ record { letter = letter; locked = is_owner old.owner t }
+      → name.0 < length old.store.blocks → IsTurn name.0 (free_turn call.letter call.locked) old.store new.store reply → Affects t op old new not_asked reply
+  free_affects letter name call is called lt turn =
+      subst (λ (o : Op). Affects t o old new not_asked reply) (sym is) (λ texts h table stands.
       let mine : call ≡ record { letter = letter; locked = is_owner h.owner t } = called ∙ ap (λ (o : Option ℕ). record { letter = letter; locked = is_owner o t }) stands.owner in
       let f = free_turn letter (is_owner h.owner t) in
       let now : IsTurn name.0 f old.store new.store reply = subst (λ (k : Call). IsTurn name.0 (free_turn k.letter k.locked) old.store new.store reply) mine turn in
       record {
-        held = turn_left texts h old new name f reply distinct stands lt now owned (free_stays letter (is_owner h.owner t));
-        answer = turn_answers texts h old new name f reply distinct stands lt now owned;
+        held = turn_left texts h old new name f reply table.distinct stands lt now others (free_stays letter (is_owner h.owner t));
+        answer = turn_answers texts h old new name f reply table.distinct stands lt now others;
         fits = no_request h.layout;
       })
 
   pub poke_acts : (name : TextId) (offset : ℤ) (new_bytes : List ℕ) → op ≡ ops.Poke name offset new_bytes → name.0 < length old.store.blocks → IsTurn name.0 (poke_turn offset new_bytes) old.store new.store reply
       → Acts t op old new not_asked reply
   poke_acts name offset new_bytes is lt turn =
-      subst (λ (o : Op). Acts t o old new not_asked reply) (sym is) (λ texts h distinct stands. record {
-        held = turn_left texts h old new name (poke_turn offset new_bytes) reply distinct stands lt turn owned (poke_stays offset new_bytes);
-        answer = turn_answers texts h old new name (poke_turn offset new_bytes) reply distinct stands lt turn owned;
+      subst (λ (o : Op). Acts t o old new not_asked reply) (sym is) (kept t (ops.Poke name offset new_bytes) old new not_asked reply (λ texts r. refl) (λ texts h table stands. record {
+        held = turn_left texts h old new name (poke_turn offset new_bytes) reply table.distinct stands lt turn others (poke_stays offset new_bytes);
+        answer = turn_answers texts h old new name (poke_turn offset new_bytes) reply table.distinct stands lt turn others;
         fits = no_request h.layout;
-      })
+      }))
 
   pub peek_acts : (name : TextId) (offset : ℤ) (count : ℕ) → op ≡ ops.Peek name offset count → name.0 < length old.store.blocks → IsTurn name.0 (peek_turn offset count) old.store new.store reply
       → Acts t op old new not_asked reply
   peek_acts name offset count is lt turn =
-      subst (λ (o : Op). Acts t o old new not_asked reply) (sym is) (λ texts h distinct stands. record {
-        held = turn_left texts h old new name (peek_turn offset count) reply distinct stands lt turn owned (peek_stays offset count);
-        answer = turn_answers texts h old new name (peek_turn offset count) reply distinct stands lt turn owned;
+      subst (λ (o : Op). Acts t o old new not_asked reply) (sym is) (kept t (ops.Peek name offset count) old new not_asked reply (λ texts r. refl) (λ texts h table stands. record {
+        held = turn_left texts h old new name (peek_turn offset count) reply table.distinct stands lt turn others (peek_stays offset count);
+        answer = turn_answers texts h old new name (peek_turn offset count) reply table.distinct stands lt turn others;
         fits = no_request h.layout;
-      })
+      }))
 
 -- ---- the lock
 
@@ -236,9 +256,9 @@ module _ (t : ℕ) (op : Op) (old new : Holding) (reply : Reply) where
   -- an operation on the owner that answers no fault
   lock_acts : (o : Op) (turn : Option ℕ → Option ℕ × PlainReply) → ((owner : Option ℕ) → is_fault (turn owner).1 ≡ false)
       → ((texts : List Name) (h : Held) → effect h t (action_of texts o) grant.NotAsked ask.NotAsked ≡ (record h { owner = (turn h.owner).0 }, (turn h.owner).1))
-      → ((texts : List Name) (h : Held) → request_of h t (action_of texts o) ≡ NoRequest)
+      → ((texts : List Name) (h : Held) → request_of h t (action_of texts o) ≡ NoRequest) → ((texts : List Name) (r : PlainReply) → change_of (action_of texts o) r ≡ keeps)
       → new ≡ record old { owner = (turn old.owner).0 } → ((texts : List Name) → plain_reply texts reply ≡ (turn old.owner).1) → Acts t o old new not_asked reply
-  lock_acts o turn sound does none is says = λ texts h distinct stands.
+  lock_acts o turn sound does none keep is says = kept t o old new not_asked reply keep (λ texts h table stands.
       let r : Held × PlainReply = (record h { owner = (turn h.owner).0 }, (turn h.owner).1) in
       let left : left_by h r ≡ record h { owner = (turn h.owner).0 } = ap (λ (b : Bool). cond {A = Held} b h (record h { owner = (turn h.owner).0 })) (sound h.owner) in
       record {
@@ -246,10 +266,13 @@ module _ (t : ℕ) (op : Op) (old new : Holding) (reply : Reply) where
           blocks = subst (λ (n : Holding). Holds texts n.store.blocks h.blocks) (sym is) stands.blocks;
           layout = ap (λ (n : Holding). n.store.layout) is ∙ stands.layout;
           owner = ap (λ (n : Holding). n.owner) is ∙ ap (λ (o : Option ℕ). (turn o).0) stands.owner;
+          files = ap (λ (n : Holding). n.callers.files) is ∙ stands.files;
+          frames = stands.frames ∙ ap (λ (n : Holding). map (frames_of texts) n.callers.frames) (sym is);
+          traces = subst (λ (n : Holding). TracesStand texts n.callers.table n.tracing h.tracing) (sym is) stands.traces;
         }));
         answer = says texts ∙ ap (λ (o : Option ℕ). (turn o).1) stands.owner ∙ sym (ap (λ (x : Held × PlainReply). x.1) (does texts h));
         fits = subst (λ (q : _). FitsRequest h.layout q grant.NotAsked ask.NotAsked) (sym (none texts h)) (no_request h.layout);
-      }
+      })
 
   acquire_sound : (owner : Option ℕ) → is_fault (acquire_turn t owner).1 ≡ false
   acquire_sound owner = by (is_owner owner t)
@@ -267,18 +290,18 @@ module _ (t : ℕ) (op : Op) (old new : Holding) (reply : Reply) where
 
   pub acquire_acts : op ≡ ops.Acquire → new ≡ record old { owner = (acquire_turn t old.owner).0 } → ((texts : List Name) → plain_reply texts reply ≡ (acquire_turn t old.owner).1) → Acts t op old new not_asked reply
   acquire_acts is held says =
-      subst (λ (o : Op). Acts t o old new not_asked reply) (sym is) (lock_acts ops.Acquire (acquire_turn t) acquire_sound (λ texts h. refl) (λ texts h. refl) held says)
+      subst (λ (o : Op). Acts t o old new not_asked reply) (sym is) (lock_acts ops.Acquire (acquire_turn t) acquire_sound (λ texts h. refl) (λ texts h. refl) (λ texts r. refl) held says)
 
   pub release_acts : op ≡ ops.Release → new ≡ record old { owner = (release_turn t old.owner).0 } → ((texts : List Name) → plain_reply texts reply ≡ (release_turn t old.owner).1) → Acts t op old new not_asked reply
   release_acts is held says =
-      subst (λ (o : Op). Acts t o old new not_asked reply) (sym is) (lock_acts ops.Release (release_turn t) release_sound (λ texts h. refl) (λ texts h. refl) held says)
+      subst (λ (o : Op). Acts t o old new not_asked reply) (sym is) (lock_acts ops.Release (release_turn t) release_sound (λ texts h. refl) (λ texts h. refl) (λ texts r. refl) held says)
 
 -- ---- operations that change nothing
 
 -- what is held stands for the same, and its sums are those of the blocks by name
 pub heap_acts : (t : ℕ) (op : Op) (old : Holding) (view : View) → op ≡ ops.Heap → view ≡ shape_in old.store → Acts t op old old not_asked (replies.Heap view)
 heap_acts t op old view is seen =
-    subst (λ (o : Op). Acts t o old old not_asked (replies.Heap view)) (sym is) (λ texts h distinct stands.
+    subst (λ (o : Op). Acts t o old old not_asked (replies.Heap view)) (sym is) (kept t ops.Heap old old not_asked (replies.Heap view) (λ texts r. refl) (λ texts h table stands.
     let pooled = stands.blocks.sums pooled_in refl in
     let raws = stands.blocks.sums raw_in refl in
     let shown : View → PlainReply = λ v. plain_reply texts (replies.Heap v) in
@@ -286,23 +309,23 @@ heap_acts t op old view is seen =
       held = stands;
       answer = ap shown (seen ∙ (λ i. shape_of (sym pooled i) (sym raws i) (stands.layout i)));
       fits = no_request h.layout;
-    })
+    }))
 
-pub refuse_acts : (t : ℕ) (op : Op) (old : Holding) (side : Side) (k : ℕ) → op ≡ ops.Refuse side k → Acts t op old old not_asked replies.Ok
-refuse_acts t op old side k is =
-    subst (λ (o : Op). Acts t o old old not_asked replies.Ok) (sym is) (λ texts h distinct stands. record { held = stands; answer = refl; fits = no_request h.layout })
+pub refuse_affects : (t : ℕ) (op : Op) (old : Holding) (side : Side) (k : ℕ) → op ≡ ops.Refuse side k → Affects t op old old not_asked replies.Ok
+refuse_affects t op old side k is =
+    subst (λ (o : Op). Affects t o old old not_asked replies.Ok) (sym is) (λ texts h table stands. record { held = stands; answer = refl; fits = no_request h.layout })
 
 -- ---- a request's result
 
 -- a call for a block, or want of memory
-pub sized_does : (t : ℕ) (op : Op) (old new : Holding) (name : TextId) (call : SizedCall) (locked : Bool) (r : Result Answer AllocError) → new.owner ≡ old.owner
+pub sized_does : (t : ℕ) (op : Op) (old new : Holding) (name : TextId) (call : SizedCall) (locked : Bool) (r : Result Answer AllocError) → new ≡ record old { store = new.store }
     → IsCallFor op name call → locked ≡ is_owner old.owner t → name.0 < length old.store.blocks
     → IfOk r (λ a. IsTurn name.0 (sized_by call locked a.asked) old.store new.store a.reply)
     → IfOk r (λ a. FitsCall old.store name.0 call locked a.asked)
-    → IfOk r (λ a. Acts t op old new a.asked a.reply)
-sized_does t op old new name call locked (Ok a) owned is owns lt turn fits =
-    sized_acts t op old new a.reply owned name call locked a.asked is owns lt turn fits
-sized_does t op old new name call locked (Err e) owned is owns lt turn fits = tt
+    → IfOk r (λ a. Affects t op old new a.asked a.reply)
+sized_does t op old new name call locked (Ok a) others is owns lt turn fits =
+    sized_affects t op old new a.reply others name call locked a.asked is owns lt turn fits
+sized_does t op old new name call locked (Err e) others is owns lt turn fits = tt
 
 -- ---- which call an operation is
 

@@ -1,5 +1,7 @@
 -- Picks that are passed over, one pick of the trace's list after the other.
-use Rattle.std.proofs.Common.{◌≡◌, ℕ, zero, suc, ◌+◌, ◌-◌, ◌<◌, Bool, true, false, List, [], ◌∷◌, ◌++◌, drop, replicate, slice_get, Option, Some, None, refl, sym, ap, subst, ◌∙◌, ◌&&◌, append_assoc, append-nil, arith, add-one, inl, inr}
+use Rattle.std.proofs.Common.{◌≡◌, ℕ, zero, suc, ◌+◌, ◌-◌, ◌<◌, Bool, true, false, List, [], ◌∷◌, ◌++◌, drop}
+use Rattle.std.proofs.Common.{replicate, slice_get, Option, Some, None, refl, sym, ap, subst, ◌∙◌, ◌&&◌}
+use Rattle.std.proofs.Common.{append_assoc, append-nil, arith, add-one, inl, inr}
 use Rattle.std.specs.Prelude.{nat_lt, IfSome, IfNone}
 use Rattle.std.proofs.lemmas.Bool.{ltb-true, lt-ltb}
 use Rattle.std.proofs.lemmas.List.Concat.{flat_map-cons}

@@ -1,18 +1,22 @@
 -- One event more: the state, and that the history stays legal.
-use Rattle.std.proofs.Common.{◌≡◌, ℕ, zero, suc, ◌+◌, ◌-◌, ◌^◌, ◌<◌, ◌≤◌, Bool, true, false, cond, List, [], ◌∷◌, ◌++◌, length, get_or, slice_get, set, map, Option, Some, None, refl, sym, ap, subst, ◌∙◌, arith, length-append, replicate}
+use Rattle.std.proofs.Common.{◌≡◌, ℕ, zero, suc, ◌+◌, ◌-◌, ◌^◌, ◌<◌, ◌≤◌, Bool, true, false, cond, List, []}
+use Rattle.std.proofs.Common.{◌∷◌, ◌++◌, length, get_or, slice_get, set, map, take, Option, Some, None, refl}
+use Rattle.std.proofs.Common.{sym, ap, subst, ◌∙◌, arith, length-append, replicate}
 use Rattle.std.specs.Prelude.{slice_index, IfSome, IfNone, sum_by}
 use Rattle.std.specs.Option.{option_map, option_and_then}
 use Rattle.std.proofs.lemmas.Option.{slice_get_within, slice_get-map, slice_get-get_or, slice_get_past}
-use Rattle.std.proofs.lemmas.List.{length-map, length-replicate}
+use Rattle.std.proofs.lemmas.List.{length-map, length-replicate, take_at}
 use Rattle.std.proofs.lemmas.List.Sums.{sum_by-cons}
 use Rattle.mem_base.specs.Name.{Name}
 use Rattle.mem_base.specs.Texts.{IsTable}
 use Rattle.mem_base.specs.declared.history.Entry.{Entry}
+use Rattle.mem_base.specs.declared.reply.Frame.{Frame}
 use Rattle.mem_base.specs.declared.reply.Reply.{Reply}
 use Rattle.mem_base.specs.declared.trace.Op.{Op}
 use Rattle.mem_base.specs.declared.trace.Side.{Side}
 use Rattle.mem_base.specs.declared.trace.Trace.{Trace}
 use Rattle.mem_base.specs.declared.trace.Track.{Track}
+use Rattle.frame_model.specs.Frames.{PlainFrame}
 use Rattle.trace_model.specs.Known.{op_at, op_count, IsKnownTrace}
 use Rattle.trace_model.specs.Plain.{Action, PlainTrack, track_of, tracks_of, action_of, plain}
 use Rattle.trace_model.specs.Spelling.{action_count}
@@ -20,19 +24,23 @@ use Rattle.layout_model.specs.Asks.{FitsRequest}
 use Rattle.layout_model.specs.Layout.{Layout}
 use Rattle.request_model.specs.Counts.{asks_in, refusals_in}
 use Rattle.event_model.specs.Blocks.{Block}
-use Rattle.event_model.specs.Effects.{effect}
-use Rattle.event_model.specs.Events.{event, event_of, settle, advance, let_go, action_after, next_action, next_request, may_do, is_ready}
+use Rattle.event_model.specs.Effects.{act}
+use Rattle.event_model.specs.Events.{event, event_of, settle, advance, let_go, action_after, next_action}
+use Rattle.event_model.specs.Events.{next_request, may_do, is_ready}
 use Rattle.event_model.specs.History.{opening, last_state, IsNext}
 use Rattle.event_model.specs.Plans.{GrowsBy, lists}
-use Rattle.event_model.specs.Replies.{PlainReply, is_fault, plain_reply}
+use Rattle.event_model.specs.Replies.{PlainReply, frames_of, is_fault, plain_reply}
 use Rattle.event_model.specs.State.{Held, State}
 use Rattle.event_model.proofs.CallerLemmas.{few_taken as few_taken_in, legal_push, legal_short, state_push}
 use Rattle.extents.specs.Extent.{Extent}
 use Rattle.sources.specs.Source.{SourceView}
 use Rattle.sources.specs.Holder.{Answered}
 use Rattle.block_store.specs.Store.{StoreView, empty_store}
-use Rattle.machine_core.specs.Acts.{Acts, Asks, Done}
-use Rattle.machine_core.specs.Held.{StandsFor}
+use Rattle.frame_stack.specs.Callers.{CallersView}
+use Rattle.trace_table.specs.Tracing.{IsIdle, TracingView}
+use Rattle.trace_table.specs.declared.key.TraceKey.TheVariants as keys
+use Rattle.machine_core.specs.Acts.{Acts, Asks, Done, IsSound}
+use Rattle.machine_core.specs.Held.{IsAsItWas, StandsFor}
 use Rattle.machine_core.specs.Progress.{IsProgress}
 use Rattle.machine_core.specs.Ready.{is_ready_now}
 use Rattle.machine_core.specs.Stands.{Stands}
@@ -40,6 +48,8 @@ use Rattle.machine_core.specs.View.{Requests}
 use Rattle.machine_core.specs.declared.held.Held.{Held as Holding}
 use Rattle.machine_core.specs.declared.progress.Progress.{Progress}
 use Rattle.machine_core.proofs.CallerLemmas.{action_is}
+use Rattle.machine_core.proofs.FollowLemmas.{as_it_was_stands}
+use Rattle.machine_core.proofs.TraceLemmas.{idle_stand}
 
 some_of : {A B : Type 0} (f : A → Option B) (o : Option A) (b : B) → option_and_then f o ≡ Some b → (a : A) × (o ≡ Some a)
 some_of f None b e = absurd cc
@@ -59,12 +69,22 @@ module _ (texts : List Name) (ts : List PlainTrack) (t : ℕ) (s : State) (r : H
   settled b = cond b (record s { faulted = true }) (advance ts t s r.0)
 
   settled_held : (b : Bool) (new : Holding) (owner : Option ℕ) → StandsFor texts new (cond b s.held r.0) → owner ≡ cond b new.owner (let_go ts t (slice_index done t + 1) new.owner)
-      → StandsFor texts (record { store = new.store; owner = owner }) (settled b).held
-  settled_held true new owner stands owned = record { blocks = stands.blocks; layout = stands.layout; owner = owned ∙ stands.owner }
+      → StandsFor texts (record new { owner = owner }) (settled b).held
+  settled_held true new owner stands owned = record {
+    blocks = stands.blocks;
+    layout = stands.layout;
+    owner = owned ∙ stands.owner;
+    files = stands.files;
+    frames = stands.frames;
+    traces = stands.traces;
+  }
   settled_held false new owner stands owned = record {
     blocks = stands.blocks;
     layout = stands.layout;
     owner = owned ∙ (λ i. let_go ts t (slice_index (done_is i) t + 1) (stands.owner i));
+    files = stands.files;
+    frames = stands.frames;
+    traces = stands.traces;
   }
 
   settled_done : (b : Bool) → cond b done next_done ≡ (settled b).done
@@ -88,6 +108,10 @@ module _ (trace : Trace) (es : List Entry) (old : Holding) (progress : Progress)
   within =
       let there = some_of (λ (track : Track). slice_get track.ops at) (slice_get trace.tracks t) op is_op in
       omega (arith, slice_get_within trace.tracks t there.0 there.1, stands.progress_is.tracks)
+
+  -- its frames are among those of the tracks
+  pub within_stacks : t < length old.callers.frames
+  within_stacks = omega (arith, within, stands.progress_is.tracks, stands.stacks)
 
   pub here_is : at ≡ slice_index done t
   here_is =
@@ -114,10 +138,10 @@ module _ (trace : Trace) (es : List Entry) (old : Holding) (progress : Progress)
   -- what the operation did, and the entry that is kept of it
   module _ (e : Entry) (its_track : e.track ≡ t) (new : Holding) (reply : Reply) (acts : Acts t op old new (record { arena = e.arena; raw = e.raw }) reply) where
     abbrev turn : Held × PlainReply
-    turn = effect now.held t (action_of trace.texts op) e.arena e.raw
+    turn = act now.held t (action_of trace.texts op) e.arena e.raw
 
     abbrev did : Done trace.texts now.held t op (record { arena = e.arena; raw = e.raw }) new reply
-    did = acts trace.texts now.held stands.table.distinct stands.held
+    did = acts trace.texts now.held stands.table stands.held
 
     pub event_is : event (tracks trace) now e ≡ (settle (tracks trace) t now turn, turn.1)
     unfolding event
@@ -146,7 +170,7 @@ module _ (trace : Trace) (es : List Entry) (old : Holding) (progress : Progress)
 
       module _ (fault : Bool) (fell : (texts : List Name) → fault ≡ is_fault (plain_reply texts reply))
           (owner' : Option ℕ) (owned : owner' ≡ cond fault new.owner (let_go (tracks trace) t (slice_index done t + 1) new.owner))
-          (progress' : Progress) (did_one : progress'.done.items ≡ cond fault done (set done t (slice_index done t + 1)))
+          (stacked : length new.callers.frames ≡ length old.callers.frames) (progress' : Progress) (did_one : progress'.done.items ≡ cond fault done (set done t (slice_index done t + 1)))
           (is : IsProgress trace progress') where
         its_fault : fault ≡ is_fault turn.1
         its_fault = fell trace.texts ∙ ap is_fault did.answer
@@ -155,15 +179,16 @@ module _ (trace : Trace) (es : List Entry) (old : Holding) (progress : Progress)
         after_is : last_state (tracks trace) (es ++ e ∷ []) ≡ settled trace.texts (tracks trace) t now turn done stands.done_is no_fault fault
         after_is = then_is ∙ ap (settled trace.texts (tracks trace) t now turn done stands.done_is no_fault) (sym its_fault)
 
-        pub stands_then : Stands trace (es ++ e ∷ []) (record { store = new.store; owner = owner' }) progress' fault
+        pub stands_then : Stands trace (es ++ e ∷ []) (record new { owner = owner' }) progress' fault
         stands_then = record {
           legal = legal_push (tracks trace) (opening (tracks trace)) es e stands.legal is_next;
           table = stands.table;
           known = stands.known;
           progress_is = is;
-          held = subst (λ (s : State). StandsFor trace.texts (record { store = new.store; owner = owner' }) s.held) (sym after_is)
+          held = subst (λ (s : State). StandsFor trace.texts (record new { owner = owner' }) s.held) (sym after_is)
               (settled_held trace.texts (tracks trace) t now turn done stands.done_is no_fault fault new owner'
               (subst (λ (b : Bool). StandsFor trace.texts new (cond b now.held turn.0)) (sym its_fault) did.held) owned);
+          stacks = stacked ∙ stands.stacks;
           done_is = did_one ∙ settled_done trace.texts (tracks trace) t now turn done stands.done_is no_fault fault ∙ ap (λ (s : State). s.done) (sym after_is);
           fault_is = settled_fault trace.texts (tracks trace) t now turn done stands.done_is no_fault fault ∙ ap (λ (s : State). s.faulted) (sym after_is);
         }
@@ -186,12 +211,22 @@ no_sum : (f : Option Block → ℕ) → f None ≡ 0 → (n : ℕ) → sum_by f 
 no_sum f none zero = refl
 no_sum f none (suc n) = omega (arith, none, no_sum f none n, sum_by-cons f none_held (replicate n none_held))
 
+no_frames : (texts : List Name) (ts : List Track) → map {A = PlainTrack} (λ t. []) (tracks_of texts ts) ≡ map (frames_of texts) (replicate (length ts) [])
+no_frames texts [] = refl
+no_frames texts (t ∷ ts) = ap (λ (l : List (List PlainFrame)). [] ∷ l) (no_frames texts ts)
+
+-- no frames, and no tracebacks
+abbrev pub opening_callers : Trace → CallersView
+opening_callers trace = record { files = length trace.texts; frames = replicate (length trace.tracks) []; table = [] }
+
 -- nothing is held, and nothing was done
-pub opening_stands : (trace : Trace) (es : List Entry) (s : StoreView) (count : ℕ) (progress : Progress) → IsTable trace.texts → IsKnownTrace trace → es ≡ [] → s ≡ empty_store count → count ≡ length trace.texts
-    → progress.done.items ≡ replicate {A = ℕ} (length trace.tracks) 0 → IsProgress trace progress → Stands trace es (record { store = s; owner = None }) progress false
-opening_stands trace es s count progress table known empty opened many zeros is =
-    subst (λ (x : List Entry). Stands trace x (record { store = s; owner = None }) progress false) (sym empty)
-    (subst (λ (v : StoreView). Stands trace [] (record { store = v; owner = None }) progress false) (sym (opened ∙ ap empty_store many)) (record {
+pub opening_stands : (trace : Trace) (es : List Entry) (s : StoreView) (c : CallersView) (tracing : TracingView) (progress : Progress) → IsTable trace.texts → IsKnownTrace trace → es ≡ []
+    → s ≡ empty_store (length trace.texts) → c ≡ opening_callers trace → IsIdle tracing
+    → progress.done.items ≡ replicate {A = ℕ} (length trace.tracks) 0 → IsProgress trace progress → Stands trace es (record { store = s; owner = None; callers = c; tracing = tracing }) progress false
+opening_stands trace es s c tracing progress table known empty opened called idle zeros is =
+    subst (λ (x : List Entry). Stands trace x (record { store = s; owner = None; callers = c; tracing = tracing }) progress false) (sym empty)
+    (subst (λ (v : StoreView). Stands trace [] (record { store = v; owner = None; callers = c; tracing = tracing }) progress false) (sym opened)
+    (subst (λ (v : CallersView). Stands trace [] (record { store = empty_store (length trace.texts); owner = None; callers = v; tracing = tracing }) progress false) (sym called) (record {
       legal = tt;
       table = table;
       known = known;
@@ -205,10 +240,36 @@ opening_stands trace es s count progress table known empty opened many zeros is 
         };
         layout = refl;
         owner = refl;
+        files = refl;
+        frames = no_frames trace.texts trace.tracks;
+        traces = idle_stand trace.texts [] [] tracing idle;
       };
+      stacks = length-replicate {A = List Frame} (length trace.tracks) [];
       done_is = zeros ∙ zeros_are trace.texts trace.tracks;
       fault_is = refl;
-    }))
+    })))
+
+-- ---- all as it was
+
+-- what an operation needs of what is held
+pub sound_is : (trace : Trace) (es : List Entry) (now : Holding) (progress : Progress) (faulted : Bool) → Stands trace es now progress faulted → IsSound now
+sound_is trace es now progress faulted stands = record {
+  files = stands.held.files ∙ sym stands.held.blocks.size;
+  numbered = λ name lt. (stands.held.traces.each (keys.Block name) (omega (arith, lt, stands.held.blocks.size))).numbered;
+}
+
+-- memory ran out, and all is as it was
+pub stands_still : (trace : Trace) (es : List Entry) (old new : Holding) (progress : Progress) (faulted : Bool) → IsAsItWas old new → Stands trace es old progress faulted → Stands trace es new progress faulted
+stands_still trace es old new progress faulted same stands = record {
+  legal = stands.legal;
+  table = stands.table;
+  known = stands.known;
+  progress_is = stands.progress_is;
+  held = as_it_was_stands trace.texts old new (last_state (tracks trace) es).held same stands.held;
+  stacks = ap (λ (c : CallersView). length c.frames) same.callers ∙ stands.stacks;
+  done_is = stands.done_is;
+  fault_is = stands.fault_is;
+}
 
 -- ---- who is ready
 
@@ -242,6 +303,12 @@ pub redone : {A : Type 0} (xs ys zs : List A) (x y : A) → ys ≡ xs ++ x ∷ [
 redone xs ys zs x y pushed put =
     let shorter : length (xs ++ x ∷ []) - 1 ≡ length xs = omega (arith, length-append xs (x ∷ [])) in
     put ∙ ap (λ (l : List _). set l (length l - 1) y) pushed ∙ ap (λ (n : ℕ). set (xs ++ x ∷ []) n y) shorter ∙ set_last xs x y
+
+-- what was just added is taken off again
+pub popped : {A : Type 0} (xs ys zs : List A) (x : A) → ys ≡ xs ++ x ∷ [] → zs ≡ take (length ys - 1) ys → zs ≡ xs
+popped xs ys zs x pushed taken =
+    let shorter : length (xs ++ x ∷ []) - 1 ≡ length xs = omega (arith, length-append xs (x ∷ [])) in
+    taken ∙ ap (λ (l : List _). take (length l - 1) l) pushed ∙ ap (λ (n : ℕ). take n (xs ++ x ∷ [])) shorter ∙ take_at xs (x ∷ []) (length xs) refl
 
 -- ---- there are few events
 

@@ -1,5 +1,5 @@
 -- The numbers of a machine's summary.
-use Rattle.std.proofs.Common.{◌≡◌, ℕ, ◌-◌, Bool, List, [], ◌∷◌, length, Some, refl, sym, ◌∙◌, arith}
+use Rattle.std.proofs.Common.{◌≡◌, ℕ, ◌-◌, Bool, List, [], ◌∷◌, length, Some, refl, sym, ap, ◌∙◌, arith}
 use Rattle.std.specs.Prelude.{sum_by}
 use Rattle.std.proofs.lemmas.List.Sums.{sum_by-cons}
 use Rattle.mem_base.specs.Name.{Name}
@@ -10,6 +10,7 @@ use Rattle.trace_model.specs.Plain.{plain}
 use Rattle.event_model.specs.Blocks.{Block, Blocks}
 use Rattle.event_model.specs.History.{last_state, totals_of}
 use Rattle.block_store.specs.Store.{counts_in, live_in, pooled_in, size_in}
+use Rattle.trace_table.specs.Traces.{traced_bytes}
 use Rattle.machine_core.specs.Stands.{Stands}
 use Rattle.machine_core.specs.declared.held.Held.{Held as Holding}
 use Rattle.machine_core.specs.declared.progress.Progress.{Progress}
@@ -20,8 +21,9 @@ count_is (b ∷ bs) = omega (arith, count_is bs, sum_by-cons (λ (x : Name × Bl
 
 pub totals_are : (trace : Trace) (es : List Entry) (now : Holding) (progress : Progress) (faulted : Bool) → Stands trace es now progress faulted
     → (events : ℕ) → events ≡ length es → (blocks bytes : ℕ) → blocks ≡ sum_by live_in now.store.blocks → bytes ≡ sum_by size_in now.store.blocks → (c : Counts) → c ≡ counts_in now.store
-    → record { events = events; owner = now.owner; blocks = blocks; bytes = bytes; counts = c; traced = 0; peak = 0 } ≡ totals_of (plain trace).tracks es
-totals_are trace es now progress faulted stands events many blocks bytes live sized c counted =
+    → (traced most : ℕ) → (◌≡◌ {A = ℕ × ℕ} (traced, most) (traced_bytes now.tracing.traces, now.tracing.peak))
+    → record { events = events; owner = now.owner; blocks = blocks; bytes = bytes; counts = c; traced = traced; peak = most } ≡ totals_of (plain trace).tracks es
+totals_are trace es now progress faulted stands events many blocks bytes live sized c counted traced most said =
     let h = (last_state (plain trace).tracks es).held in
     let laid : now.store.layout ≡ h.layout = stands.held.layout in
     λ i. record {
@@ -36,6 +38,6 @@ totals_are trace es now progress faulted stands events many blocks bytes live si
         most = (laid j).most;
         pooled = sym (stands.held.blocks.sums pooled_in refl) j;
       })) i;
-      traced = 0;
-      peak = 0;
+      traced = (ap (λ (p : ℕ × ℕ). p.0) said ∙ stands.held.traces.bytes) i;
+      peak = (ap (λ (p : ℕ × ℕ). p.1) said ∙ stands.held.traces.most) i;
     }

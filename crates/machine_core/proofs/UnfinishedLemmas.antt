@@ -1,11 +1,15 @@
 -- The tracks that have operations left, in rising order: the first ready one, and the list without one of them.
-use Rattle.std.proofs.Common.{◌≡◌, ◌≢◌, ℕ, zero, suc, ◌+◌, ◌<◌, ◌≤◌, Bool, true, false, cond, not, ◌&&◌, ◌==◌, List, [], ◌∷◌, ◌++◌, length, get_or, filter, is_some, slice_index, refl, sym, ap, subst, ◌∙◌, arith, inl, inr}
+use Rattle.std.proofs.Common.{◌≡◌, ◌≢◌, ℕ, zero, suc, ◌+◌, ◌<◌, ◌≤◌, Bool, true, false, cond, not, ◌&&◌, ◌==◌}
+use Rattle.std.proofs.Common.{List, [], ◌∷◌, ◌++◌, length, get_or, filter, is_some, slice_index, refl, sym}
+use Rattle.std.proofs.Common.{ap, subst, ◌∙◌, arith, inl, inr}
 use Rattle.std.specs.List.{range_with_len}
 use Rattle.std.proofs.lemmas.Bool.{cases_eq, cases_lt}
 use Rattle.std.proofs.lemmas.List.Elements.{filter-append}
 use Rattle.std.proofs.lemmas.List.FromFn.{map-range_with_len_more}
 use Rattle.std.proofs.Math.Bool.{and-true}
-use Rattle.std.proofs.Common.{Option, Some, None, option_map, option_and_then, slice_get, set, get_or-set_same, get_or-set_other, length-set, eq-eqb, ne_eqb, add-one, map-id, replicate, append-nil}
+use Rattle.std.proofs.Common.{Option, Some, None, option_map, option_and_then, slice_get, set}
+use Rattle.std.proofs.Common.{get_or-set_same, get_or-set_other, length-set, eq-eqb, ne_eqb, add-one, map-id}
+use Rattle.std.proofs.Common.{replicate, append-nil}
 use Rattle.mem_base.specs.declared.trace.Op.{Op}
 use Rattle.mem_base.specs.declared.trace.Trace.{Trace}
 use Rattle.mem_base.specs.declared.trace.Track.{Track}

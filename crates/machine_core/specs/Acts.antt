@@ -1,16 +1,17 @@
 -- What an operation does to what is held, and asks of the sources.
-use Rattle.std.specs.Prelude.{◌≡◌, ℕ, ◌+◌, Bool, true, false, if◌then◌else◌, List, Some}
+use Rattle.std.specs.Prelude.{◌≡◌, ℕ, ◌+◌, ◌<◌, Bool, true, false, if◌then◌else◌, List, length, Some}
 use Rattle.mem_base.specs.Name.{Name}
 use Rattle.mem_base.specs.Plan.{plan_with}
-use Rattle.mem_base.specs.Texts.{IsDistinct}
+use Rattle.mem_base.specs.Texts.{IsTable}
 use Rattle.mem_base.specs.declared.reply.Reply.{Reply}
+use Rattle.mem_base.specs.declared.texts.TextId.{TextId}
 use Rattle.mem_base.specs.declared.trace.Op.{Op}
 use Rattle.mem_base.specs.declared.trace.Op.TheVariants as ops
 use Rattle.mem_base.specs.declared.trace.Side.{Side}
 use Rattle.mem_base.specs.declared.trace.Side.TheVariants as sides
 use Rattle.trace_model.specs.Plain.{action_of}
 use Rattle.layout_model.specs.Asks.{FitsRequest}
-use Rattle.event_model.specs.Effects.{effect, request_of}
+use Rattle.event_model.specs.Effects.{act, effect, request_of}
 use Rattle.event_model.specs.Plans.{GrowsBy, lists}
 use Rattle.event_model.specs.Replies.{PlainReply, is_fault, plain_reply}
 use Rattle.event_model.specs.State.{Held}
@@ -19,8 +20,11 @@ use Rattle.sources.specs.Holder.{Answered, Traded}
 use Rattle.request_model.specs.Counts.{arena_asks, arena_refusals, raw_asks, raw_refusals}
 use Rattle.sources.specs.Source.{ArenaShape, SourceView}
 use Rattle.domain_api.specs.declared.answers.Asked.{Asked}
+use Rattle.trace_table.specs.Traces.{trace_at}
+use Rattle.trace_table.specs.declared.key.TraceKey.TheVariants as keys
 pub use Rattle.block_store.specs.Sources.{Fails, FailsUnrefused}
 use Rattle.machine_core.specs.Held.{StandsFor}
+use Rattle.machine_core.specs.Traces.{IsNumbered}
 use Rattle.machine_core.specs.declared.held.Held.{Held as Holding}
 
 -- ---- which operations ask a source
@@ -60,19 +64,38 @@ is_quiet (ops.Refuse side number) = false
 abbrev pub left_by : Held → Held × PlainReply → Held
 left_by h r = if is_fault r.1 then h else r.0
 
--- an operation of track t was done: what is held and the reply are as the definitions say, and the answers fit
--- what it asks for
-pub record Done (texts : List Name) (h : Held) (t : ℕ) (op : Op) (asked : Asked) (new : Holding) (reply : Reply)
-    : Type 0 where
-  pub held : StandsFor texts new (left_by h (effect h t (action_of texts op) asked.arena asked.raw))
-  pub answer : plain_reply texts reply ≡ (effect h t (action_of texts op) asked.arena asked.raw).1
+-- an operation of track t came to this: what is held and the reply are those, and the answers fit what it asks for
+pub record CameTo (texts : List Name) (h : Held) (t : ℕ) (op : Op) (asked : Asked) (r : Held × PlainReply)
+    (new : Holding) (reply : Reply) : Type 0 where
+  pub held : StandsFor texts new (left_by h r)
+  pub answer : plain_reply texts reply ≡ r.1
   pub fits : FitsRequest h.layout (request_of h t (action_of texts op)) asked.arena asked.raw
+
+-- the operation was done, as the definitions say
+abbrev pub Done : List Name → Held → ℕ → Op → Asked → Holding → Reply → Type 0
+Done texts h t op asked = CameTo texts h t op asked (act h t (action_of texts op) asked.arena asked.raw)
+
+-- it was done but for what is traced
+abbrev pub HasEffect : List Name → Held → ℕ → Op → Asked → Holding → Reply → Type 0
+HasEffect texts h t op asked = CameTo texts h t op asked (effect h t (action_of texts op) asked.arena asked.raw)
 
 -- whatever is held by name, the operation of track t was done to it, with these answers of the sources
 abbrev pub Acts : ℕ → Op → Holding → Holding → Asked → Reply → Type 0
 Acts t op old new asked reply =
     (texts : List Name) (h : Held)
-    → IsDistinct texts → StandsFor texts old h → Done texts h t op asked new reply
+    → IsTable texts → StandsFor texts old h → Done texts h t op asked new reply
+
+-- whatever is held by name, the operation of track t was done to it, but for what is traced
+abbrev pub Affects : ℕ → Op → Holding → Holding → Asked → Reply → Type 0
+Affects t op old new asked reply =
+    (texts : List Name) (h : Held)
+    → IsTable texts → StandsFor texts old h → HasEffect texts h t op asked new reply
+
+-- the files of frames are the numbers of names, and the tracebacks of blocks' traces have numbers
+pub record IsSound (now : Holding) : Type 0 where
+  pub files : now.callers.files ≡ length now.store.blocks
+  pub numbered : (name : TextId) → name.0 < length now.store.blocks
+      → IsNumbered now.callers.table (trace_at now.tracing.traces (keys.Block name))
 
 -- ---- the sources
 

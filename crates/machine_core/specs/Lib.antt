@@ -1,8 +1,10 @@
 pub mod Acts
 pub mod Held
 pub mod Picks
+pub mod Prepared
 pub mod Progress
 pub mod Ready
 pub mod Spots
 pub mod Stands
+pub mod Traces
 pub mod View

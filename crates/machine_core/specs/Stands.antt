@@ -1,5 +1,5 @@
 -- When the fields of a machine stand for the state that its history leads to.
-use Rattle.std.specs.Prelude.{◌≡◌, List, Bool}
+use Rattle.std.specs.Prelude.{◌≡◌, List, length, Bool}
 use Rattle.mem_base.specs.Texts.{IsTable}
 use Rattle.mem_base.specs.declared.history.Entry.{Entry}
 use Rattle.mem_base.specs.declared.trace.Trace.{Trace}
@@ -19,5 +19,6 @@ pub record Stands (trace : Trace) (entries : List Entry) (now : Holding) (progre
   pub known : IsKnownTrace trace
   pub progress_is : IsProgress trace progress
   pub held : StandsFor trace.texts now (last_state (plain trace).tracks entries).held
+  pub stacks : length now.callers.frames ≡ length trace.tracks
   pub done_is : progress.done.items ≡ (last_state (plain trace).tracks entries).done
   pub fault_is : faulted ≡ (last_state (plain trace).tracks entries).faulted

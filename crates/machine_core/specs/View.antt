@@ -1,5 +1,5 @@
 -- What contracts see of a machine.
-use Rattle.std.specs.Prelude.{◌≡◌, ℕ, Bool, List, [], ◌∷◌, ◌++◌, Option}
+use Rattle.std.specs.Prelude.{◌≡◌, ℕ, Bool, List, [], ◌∷◌, ◌++◌, length, Option}
 use Rattle.mem_base.specs.declared.history.Entry.{Entry}
 use Rattle.mem_base.specs.declared.reply.Step.{Step}
 use Rattle.mem_base.specs.declared.trace.Side.{Side}
@@ -8,7 +8,7 @@ use Rattle.trace_model.specs.Plain.{PlainTrack, plain}
 use Rattle.event_model.specs.Events.{event, is_ready, next_action}
 use Rattle.event_model.specs.History.{last_state, IsNext}
 use Rattle.event_model.specs.Plans.{GrowsBy, lists}
-use Rattle.event_model.specs.Replies.{plain_reply}
+use Rattle.event_model.specs.Replies.{IsKnownReply, plain_reply}
 use Rattle.event_model.specs.State.{State}
 use Rattle.request_model.specs.Counts.{asks_in, refusals_in}
 use Rattle.raw_region.specs.Region.{PieceView}
@@ -38,13 +38,14 @@ state_of m = last_state (tracks_of m) m.entries
 abbrev pub ready_in : MachineView → ℕ → Bool
 ready_in m t = is_ready (tracks_of m) (state_of m) t
 
--- the histories of a trace differ by one more event, of track t, with its reply
+-- the histories of a trace differ by one more event, of track t, with its reply, whose files are in the trace's table
 pub record IsEvent (trace : Trace) (old new : List Entry) (t : ℕ) (step : Step) : Type 0 where
   pub track : step.entry.track ≡ t
   pub next : IsNext (plain trace).tracks (last_state (plain trace).tracks old) step.entry
   pub grows : new ≡ old ++ step.entry ∷ []
   pub reply : plain_reply trace.texts step.reply
       ≡ (event (plain trace).tracks (last_state (plain trace).tracks old) step.entry).1
+  pub known : IsKnownReply (length trace.texts) step.reply
 
 module _ {S : Type 0} where
   -- what the source of a side answered in the event of an entry: its counts say so, its plan grew by what the

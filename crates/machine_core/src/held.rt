@@ -2,31 +2,45 @@
 //!
 //! An operation of a track comes to one call: of the store for a block (`malloc`, `calloc`, `realloc`,
 //! `free`, `poke`, `peek`) and for the heap's shape, of the owner for the interpreter lock (`take_gil` and
-//! `drop_gil` of CPython's `ceval_gil.c`, without the waiting: a track that has to wait is not ready), and
-//! of a source for a refusal.
-ghost use Rattle.std.specs.Prelude.{◌≡◌, ◌<◌, ◌≤◌, ◌^◌, List, length, true, false, is_some, IfOk, IfSome, IfNone, OnOk, OnErr};
+//! `drop_gil` of CPython's `ceval_gil.c`, without the waiting: a track that has to wait is not ready), of
+//! the callers for a frame that comes, goes on or goes, of the traces for what tracemalloc's functions do,
+//! and of a source for a refusal. What follows for the traces from a call of the store stands in `traces`.
+//!
+//! ```text
+//!     store      name 3: a block of 100 bytes        name 4: none
+//!     owner      track 0
+//!     callers    track 0: main.py:3 load.py:10       track 1: no frames       tracebacks 0, 1, ..
+//!     tracing    limit 1    name 3: 100 bytes, traceback 1, of 2 frames       sum 100, peak 140
+//! ```
+ghost use Rattle.std.specs.Prelude.{◌≡◌, ◌<◌, ◌≤◌, ◌^◌, List, length, true, false, is_some, IfOk, IfSome};
+ghost use Rattle.std.specs.Prelude.{IfNone, OnOk, OnErr};
 ghost use Rattle.mem_base.specs.Name.{Name};
 ghost use Rattle.mem_base.specs.declared.limits.TheConstants.{MAX_REFUSAL};
 ghost use Rattle.mem_base.specs.declared.trace.Side.TheVariants as sides;
 ghost use Rattle.trace_model.specs.Plain.{IsKnownAmong};
 ghost use Rattle.event_model.specs.Lock.{acquire_turn, release_turn};
-ghost use Rattle.event_model.specs.Replies.{plain_reply};
+ghost use Rattle.event_model.specs.Replies.{plain_reply, IsKnownReply};
 ghost use Rattle.event_model.specs.State.{is_owner};
 ghost use Rattle.domain_api.specs.Domains.{not_asked};
 ghost use Rattle.block_store.specs.Sources.{AreHeld, CanAsk, Fails, FailsUnrefused, IsPassedOn};
 ghost use Rattle.block_store.specs.Store.{HoldsTheSame};
-ghost use Rattle.machine_core.specs.Acts.{is_quiet, told_where, Acts, AsksArenas, AsksRaws};
+ghost use Rattle.machine_core.specs.Acts.{is_quiet, told_where, Acts, Affects, AsksArenas, AsksRaws, IsSound};
+ghost use Rattle.machine_core.specs.Held.{IsAsItWas};
 
 use block_store::{Answer, Call, Store};
+use frame_stack::Callers;
 use mem_base::{Letter, Op, Reply, Side, TrackId};
 use sources::{ArenaSource, RawSource};
 use std::alloc::{AllocError, Global};
+use trace_table::Tracing;
 
-/// What operations work on: the blocks, and the track that owns the interpreter lock. It must be spent
-/// by the store's `end`.
+/// What operations work on: the blocks, the track that owns the interpreter lock, the frames of the tracks
+/// with their tracebacks, and the traces. It must be spent by the store's `end`.
 pub(crate) struct Held {
     pub(crate) store: Store,
     pub(crate) owner: Option<TrackId>,
+    pub(crate) callers: Callers,
+    pub(crate) tracing: Tracing,
 }
 
 // Asks a source to refuse its k-th request from now. The error is want of memory.
@@ -87,13 +101,17 @@ impl Held {
 
     // Does an operation that asks no source, and leaves all others to `asking`.
     fn quiet(&mut self, alloc: Global, t: TrackId, op: &Op) -> Result<Option<Reply>, AllocError>
-        requires { IsKnownAmong (length self.old.store.blocks) op.now }
+        requires known { IsKnownAmong (length self.old.store.blocks) op.now }
+        requires track { t < length self.old.callers.frames }
+        requires sound { IsSound self.old }
         ensures done { IfOk result (λ r. is_some r ≡ is_quiet op.now) }
         ensures acts { IfOk result (λ r.
             IfSome r (λ reply. Acts t op.now self.old self.new not_asked reply)) }
+        ensures known { IfOk result (λ r. IfSome r (IsKnownReply (length self.old.store.blocks))) }
         ensures same { HoldsTheSame self.old.store self.new.store }
+        ensures stacks { length self.new.callers.frames ≡ length self.old.callers.frames }
         ensures others { IfOk result (λ r. IfNone r (self.new ≡ self.old)) }
-        ensures err { OnErr result (self.new ≡ self.old) }
+        ensures err { OnErr result (IsAsItWas self.old self.new) }
     {
         match op {
             Op::Acquire => Ok(Some(self.acquire(t))),
@@ -106,6 +124,47 @@ impl Held {
                 let reply = self.store.peek(alloc, *name, *offset, *count)?;
                 Ok(Some(reply))
             }
+            Op::Enter(file, line) => {
+                self.callers.enter(t, *file, *line)?;
+                Ok(Some(Reply::Ok))
+            }
+            Op::Line(line) => {
+                self.callers.line(t, *line);
+                Ok(Some(Reply::Ok))
+            }
+            Op::Leave => {
+                self.callers.leave(t);
+                Ok(Some(Reply::Ok))
+            }
+            Op::Start(limit) => {
+                self.tracing.start(*limit);
+                Ok(Some(Reply::Ok))
+            }
+            Op::Stop => {
+                self.tracing.stop();
+                Ok(Some(Reply::Ok))
+            }
+            Op::Clear => {
+                self.tracing.clear();
+                Ok(Some(Reply::Ok))
+            }
+            Op::ResetPeak => {
+                self.tracing.reset_peak();
+                Ok(Some(Reply::Ok))
+            }
+            Op::Traced => {
+                let (current, peak) = self.tracing.traced();
+                Ok(Some(Reply::Traced(current, peak)))
+            }
+            Op::Mark(domain, number, size) => {
+                let reply = self.mark(t, *domain, *number, *size)?;
+                Ok(Some(reply))
+            }
+            Op::Unmark(domain, number) => Ok(Some(self.unmark(*domain, *number))),
+            Op::Origin(name) => {
+                let reply = self.origin(alloc, *name)?;
+                Ok(Some(reply))
+            }
             Op::Heap => {
                 let view = self.store.view()?;
                 Ok(Some(Reply::Heap(view)))
@@ -115,18 +174,7 @@ impl Held {
             | Op::Realloc(_, _, _)
             | Op::Free(_, _)
             | Op::Refuse(_, _) => Ok(None),
-            Op::Enter(_, _)
-            | Op::Line(_)
-            | Op::Leave
-            | Op::Start(_)
-            | Op::Stop
-            | Op::Clear
-            | Op::ResetPeak
-            | Op::Traced
-            | Op::Mark(_, _, _)
-            | Op::Unmark(_, _)
-            | Op::Origin(_)
-            | Op::Snapshot(_)
+            Op::Snapshot(_)
             | Op::Keep(_, _, _)
             | Op::Stats(_, _, _, _)
             | Op::Compare(_, _, _, _, _)
@@ -146,12 +194,14 @@ impl Held {
         requires asking { is_quiet op.now ≡ false }
         requires ask { CanAsk self.old.store (A.seen arenas.old) (R.seen raws.old) }
         requires held { AreHeld self.old.store (A.seen arenas.old) (R.seen raws.old) }
-        ensures acts { IfOk result (λ a. Acts t op.now self.old self.new a.asked a.reply) }
+        ensures affects { IfOk result (λ a. Affects t op.now self.old self.new a.asked a.reply) }
+        ensures known { IfOk result (λ a. IsKnownReply (length self.old.store.blocks) a.reply) }
         ensures asks_arena { IfOk result (λ a.
             AsksArenas op.now a.asked self.old self.new (A.seen arenas.old) (A.seen arenas.new)) }
         ensures asks_raw { IfOk result (λ a.
             AsksRaws op.now a.asked self.old self.new (R.seen raws.old) (R.seen raws.new)) }
         ensures held { AreHeld self.new.store (A.seen arenas.new) (R.seen raws.new) }
+        ensures others { self.new ≡ record self.old { store = self.new.store } }
         ensures err { OnErr result (self.new ≡ self.old) }
         ensures fails_arena { OnErr result
             (Fails self.old.store.arenas (A.seen arenas.old) (A.seen arenas.new)) }
@@ -208,8 +258,8 @@ impl Held {
     }
 
     /// Does an operation of the track. All that can fail comes before any change, and a request to a
-    /// source comes last of that. The error is want of memory: then all is as it was, and what a source
-    /// granted has gone back.
+    /// source comes last of that. The error is want of memory: then all is as it was, but for what the
+    /// tables of tracebacks and traces have room for, and what a source granted has gone back.
     pub(crate) fn act<A: ArenaSource, R: RawSource>(
         &mut self,
         alloc: Global,
@@ -219,15 +269,19 @@ impl Held {
         raws: &mut R,
     ) -> Result<Answer, AllocError>
         requires known { IsKnownAmong (length self.old.store.blocks) op.now }
+        requires track { t < length self.old.callers.frames }
+        requires sound { IsSound self.old }
         requires ask { CanAsk self.old.store (A.seen arenas.old) (R.seen raws.old) }
         requires held { AreHeld self.old.store (A.seen arenas.old) (R.seen raws.old) }
         ensures acts { IfOk result (λ a. Acts t op.now self.old self.new a.asked a.reply) }
+        ensures known { IfOk result (λ a. IsKnownReply (length self.old.store.blocks) a.reply) }
         ensures asks_arena { IfOk result (λ a.
             AsksArenas op.now a.asked self.old self.new (A.seen arenas.old) (A.seen arenas.new)) }
         ensures asks_raw { IfOk result (λ a.
             AsksRaws op.now a.asked self.old self.new (R.seen raws.old) (R.seen raws.new)) }
         ensures held { AreHeld self.new.store (A.seen arenas.new) (R.seen raws.new) }
-        ensures err { OnErr result (self.new ≡ self.old) }
+        ensures stacks { length self.new.callers.frames ≡ length self.old.callers.frames }
+        ensures err { OnErr result (IsAsItWas self.old self.new) }
         ensures fails_arena { OnErr result
             (Fails self.old.store.arenas (A.seen arenas.old) (A.seen arenas.new)) }
         ensures fails_raw { OnErr result
@@ -237,7 +291,12 @@ impl Held {
     {
         match self.quiet(alloc, t, op)? {
             Some(reply) => Ok(Answer::unasked(reply)),
-            None => self.asking(t, op, arenas, raws),
+            None => {
+                let prepared = self.prepare(t, op)?;
+                let answer = self.asking(t, op, arenas, raws)?;
+                self.trace(prepared, &answer.reply);
+                Ok(answer)
+            }
         }
     }
 }

@@ -5,10 +5,12 @@ use crate::picks::PicksLeft;
 use crate::progress::Progress;
 use crate::schedule::{first_ready_at, is_ready_at, next_op, settle};
 use block_store::{Answer, Spot, Store};
+use frame_stack::Callers;
 use mem_base::{Ask, Entry, Grant, History, List, Step, Texts, Totals, Trace, TrackId};
 use sources::{ArenaSource, RawSource};
 use std::alloc::{AllocError, Global};
 use std::marker::{Model, Send};
+use trace_table::Tracing;
 
 /// A trace that is replayed event by event. It must be spent by `end`.
 pub struct Machine {
@@ -65,6 +67,7 @@ impl Machine {
         ensures raws { IfOk result (λ m. m.raws ≡ []) }
     {
         let progress = Progress::new(alloc, &trace)?;
+        let callers = Callers::new(alloc, trace.tracks.len(), trace.texts.len())?;
         let store = Store::new(alloc, trace.texts.len())?;
         Ok(Machine {
             alloc,
@@ -72,7 +75,12 @@ impl Machine {
             history: History {
                 entries: List::new(alloc),
             },
-            held: Held { store, owner: None },
+            held: Held {
+                store,
+                owner: None,
+                callers,
+                tracing: Tracing::new(alloc),
+            },
             progress,
             faulted: false,
             picks: PicksLeft::all(),
@@ -114,14 +122,15 @@ impl Machine {
         ensures { result ≡ totals_of (tracks_of self.now) self.now.entries }
     {
         let blocks = self.held.store.totals();
+        let (traced, peak) = self.held.tracing.traced();
         Totals {
             events: self.history.entries.len() as u64,
             owner: self.held.owner,
             blocks: blocks.blocks,
             bytes: blocks.bytes,
             counts: self.held.store.counts(),
-            traced: 0,
-            peak: 0,
+            traced,
+            peak,
         }
     }
 
@@ -153,7 +162,12 @@ impl Machine {
             faulted: _,
             picks: _,
         } = self;
-        let Held { store, owner: _ } = held;
+        let Held {
+            store,
+            owner: _,
+            callers: _,
+            tracing: _,
+        } = held;
         store.end(arenas, raws);
         history
     }

@@ -11,7 +11,8 @@
 //! ```
 //!
 //! The first ready track is looked for in this list, and no finished track is looked at again.
-ghost use Rattle.std.specs.Prelude.{◌≡◌, ◌≤◌, ◌+◌, ◌<◌, ◌^◌, ◌==◌, filter, length, replicate, is_some, not, slice_index, slice_set, IfOk};
+ghost use Rattle.std.specs.Prelude.{◌≡◌, ◌≤◌, ◌+◌, ◌<◌, ◌^◌, ◌==◌, filter, length, replicate, is_some, not};
+ghost use Rattle.std.specs.Prelude.{slice_index, slice_set, IfOk};
 ghost use Rattle.mem_base.specs.declared.limits.TheConstants.{MAX_TRACKS};
 ghost use Rattle.trace_model.specs.Known.{op_at};
 ghost use Rattle.machine_core.specs.Progress.{IsProgress, unfinished};

@@ -3,7 +3,8 @@
 //! A track is ready where it has an operation left and need not wait for another track: only `acquire`
 //! waits, while another track owns the interpreter lock. A track that has done its last operation lets
 //! go of the lock, as a thread that ends does.
-ghost use Rattle.std.specs.Prelude.{◌≡◌, ◌≤◌, ◌+◌, ◌<◌, ◌^◌, ◌&&◌, ℕ, List, true, false, if◌then◌else◌, length, slice_index, slice_set, IfSome, IfNone, None, is_some, not};
+ghost use Rattle.std.specs.Prelude.{◌≡◌, ◌≤◌, ◌+◌, ◌<◌, ◌^◌, ◌&&◌, ℕ, List, true, false, if◌then◌else◌};
+ghost use Rattle.std.specs.Prelude.{length, slice_index, slice_set, IfSome, IfNone, None, is_some, not};
 ghost use Rattle.std.specs.Option.{option_copied};
 ghost use Rattle.mem_base.specs.Name.{Name};
 ghost use Rattle.trace_model.specs.Plain.{action_of, plain};

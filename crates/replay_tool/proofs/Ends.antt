@@ -8,8 +8,10 @@ use Rattle.domain_api.specs.Held.{AreAskedNothing}
 use Rattle.replay_tool.specs.declared.status.Halt.{Halt}
 use Rattle.replay_tool.specs.declared.status.Halt.TheVariants as halt
 use Rattle.replay_tool.specs.declared.status.Status.{Status}
-use Rattle.replay_tool.specs.declared.status.Status.TheVariants.{Done, Faulted, Usage, FaultyLine, ReadFault, WriteFault, OutOfMemory, TooLong}
-use Rattle.replay_tool.specs.Replays.{Replay, RanWhole, BrokeInEvent, BrokeAtEnd, ReportEnds, ReportStops, ReplayEnds, status_at, the_report}
+use Rattle.replay_tool.specs.declared.status.Status.TheVariants.{Done, Faulted, Usage, FaultyLine, ReadFault}
+use Rattle.replay_tool.specs.declared.status.Status.TheVariants.{WriteFault, OutOfMemory, TooLong}
+use Rattle.replay_tool.specs.Replays.{Replay, RanWhole, BrokeInEvent, BrokeAtEnd, ReportEnds, ReportStops}
+use Rattle.replay_tool.specs.Replays.{ReplayEnds, status_at, the_report}
 use Rattle.replay_tool.specs.Served.{Served, ServedNearly, Sources}
 use Rattle.replay_tool.specs.Status.{halted}
 use Rattle.replay_tool.proofs.ServedLaws.{served_ended, nearly_ended}

@@ -1,5 +1,6 @@
 -- What a replay keeps from event to event.
-use Rattle.std.proofs.Common.{◌≡◌, inl, inr, ℕ, ◌+◌, ◌<◌, List, [], ◌∷◌, ◌++◌, length, sym, ap, subst, ◌∙◌, append-nil, length-append, slice_get, Result, Ok, Err, arith, take, true, false}
+use Rattle.std.proofs.Common.{◌≡◌, inl, inr, ℕ, ◌+◌, ◌<◌, List, [], ◌∷◌, ◌++◌, length, sym, ap, subst, ◌∙◌}
+use Rattle.std.proofs.Common.{append-nil, length-append, slice_get, Result, Ok, Err, arith, take, true, false}
 use Rattle.std.proofs.KnownBytes.{Appends-trans}
 use Rattle.streams.specs.Faults.{raised}
 use Rattle.mem_base.specs.declared.history.Entry.{Entry}
@@ -21,7 +22,9 @@ use Rattle.report_text.specs.Texts.{step_text}
 use Rattle.replay_tool.specs.declared.status.Halt.{Halt}
 use Rattle.replay_tool.specs.declared.status.Halt.TheVariants.{WriteFault, OutOfMemory}
 use Rattle.replay_tool.specs.Status.{Tells}
-use Rattle.replay_tool.specs.Replays.{EventStops, ReportStops, ReportEnds, Moment, moment, OneMore, NoneMore, LackedEvent, TradedBoth, text_from, replay_between, the_report, RanWhole, RanUntilBroken, RanOut}
+use Rattle.replay_tool.specs.Replays.{EventStops, ReportStops, ReportEnds, Moment, moment, OneMore, NoneMore}
+use Rattle.replay_tool.specs.Replays.{LackedEvent, TradedBoth, text_from, replay_between, the_report}
+use Rattle.replay_tool.specs.Replays.{RanWhole, RanUntilBroken, RanOut}
 use Rattle.replay_tool.specs.Served.{Served, ServedNearly, Sources}
 use Rattle.replay_tool.specs.Streams.{Stream, Wrote, BrokeWithin}
 use Rattle.replay_tool.proofs.ServedLaws.{served_more, served_nearly, served_failed}

@@ -1,5 +1,6 @@
 -- From what a run did to all that it promises.
-use Rattle.std.proofs.Common.{◌≡◌, ℕ, ◌⊎◌, inl, inr, List, Option, Some, None, Result, Ok, Err, refl, sym, ap, subst, ◌∙◌, arith, ◌<◌, ◌≤◌, length, true≢false, length-append}
+use Rattle.std.proofs.Common.{◌≡◌, ℕ, ◌⊎◌, inl, inr, List, Option, Some, None, Result, Ok, Err, refl, sym, ap}
+use Rattle.std.proofs.Common.{subst, ◌∙◌, arith, ◌<◌, ◌≤◌, length, true≢false, length-append}
 use Rattle.std.specs.Prelude.{IfSome, ◌==◌, if◌then◌else◌}
 use Rattle.std.specs.Io.KnownBytes.{IsAtEnd}
 use Rattle.streams.specs.Moves.{GaveWithin, GavePast, IsToldPast}
@@ -14,7 +15,8 @@ use Rattle.trace_model.proofs.CallerLemmas.{trace_again}
 use Rattle.replay_tool.specs.declared.refusal.Refusal.{Refusal}
 use Rattle.replay_tool.specs.declared.refusal.Refusal.TheVariants as refusal
 use Rattle.replay_tool.specs.declared.status.Status.{Status}
-use Rattle.replay_tool.specs.declared.status.Status.TheVariants.{Done, Faulted, Usage, FaultyLine, ReadFault, WriteFault, OutOfMemory, TooLong}
+use Rattle.replay_tool.specs.declared.status.Status.TheVariants.{Done, Faulted, Usage, FaultyLine, ReadFault}
+use Rattle.replay_tool.specs.declared.status.Status.TheVariants.{WriteFault, OutOfMemory, TooLong}
 use Rattle.replay_tool.specs.Input.{WasRead}
 use Rattle.replay_tool.specs.Promise.{Promise, Says, Gets, CanWrite, EndedOrBroke, EndedOrYielded}
 use Rattle.replay_tool.specs.Refusals.{Refusing, told, broke, lacked, TakesMemory, IsInputCause, line_of, status_of}

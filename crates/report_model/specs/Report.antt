@@ -1,5 +1,6 @@
 -- The texts of events, the summary, and the report of a history.
-use Rattle.std.specs.Prelude.{ℕ, ◌+◌, if◌then◌else◌, List, [], ◌∷◌, ◌++◌, map, slice_get, unwrap_or, Option, Some, None, codes, decimal}
+use Rattle.std.specs.Prelude.{ℕ, ◌+◌, if◌then◌else◌, List, [], ◌∷◌, ◌++◌, length, map, slice_get}
+use Rattle.std.specs.Prelude.{unwrap_or, Option, Some, None, codes, decimal}
 use Rattle.std.specs.List.{flat_map, join_with_byte}
 use Rattle.mem_base.specs.declared.history.Entry.{Entry}
 use Rattle.mem_base.specs.declared.reply.ArenaLine.{ArenaLine}
@@ -11,12 +12,14 @@ use Rattle.mem_base.specs.declared.reply.Totals.{Totals}
 use Rattle.mem_base.specs.declared.reply.UsedPool.{UsedPool}
 use Rattle.mem_base.specs.declared.reply.View.{View}
 use Rattle.mem_base.specs.Name.{Name}
+use Rattle.frame_model.specs.Frames.{PlainFrame}
 use Rattle.trace_model.specs.Plain.{Action, PlainTrack, name_of}
 use Rattle.trace_model.specs.Operands.{hex_word}
 use Rattle.trace_model.specs.Spelling.{line_of, blank, line_end}
 use Rattle.event_model.specs.Events.{next_action, event}
 use Rattle.event_model.specs.History.{opening, last_state, totals_of}
-use Rattle.event_model.specs.Replies.{PlainReply, ok, null, busy, absent, outside, held, not_held, bytes, shape, fault, unsaid}
+use Rattle.event_model.specs.Replies.{PlainReply, ok, null, busy, absent, outside, held, not_held, not_tracing}
+use Rattle.event_model.specs.Replies.{untraced, traced, frames, bytes, shape, fault, unsaid}
 use Rattle.event_model.specs.State.{State}
 
 -- ---- the text of an event
@@ -24,6 +27,14 @@ use Rattle.event_model.specs.State.{State}
 -- how many blocks lie in pools, and how many in raw regions
 unfoldable pub shape_word : View → List ℕ
 shape_word v = codes "pool " ++ decimal v.pooled ++ codes " raw " ++ decimal v.raws
+
+-- the bytes that are traced, and the most that were
+unfoldable pub traced_word : ℕ → ℕ → List ℕ
+traced_word current most = decimal current ++ blank ∷ decimal most
+
+-- how many frames a trace keeps, and of how many
+unfoldable pub frames_word : ℕ → ℕ → List ℕ
+frames_word kept total = codes "frames " ++ decimal kept ++ codes " of " ++ decimal total
 
 -- what stands behind the equals sign; a reply that no operation gives has no word
 abbrev pub reply_word : PlainReply → List ℕ
@@ -34,6 +45,10 @@ reply_word absent = codes "absent"
 reply_word outside = codes "outside"
 reply_word held = codes "held"
 reply_word not_held = codes "not_held"
+reply_word not_tracing = codes "not_tracing"
+reply_word untraced = codes "none"
+reply_word (traced current most) = traced_word current most
+reply_word (frames kept total) = frames_word (length kept) total
 reply_word (bytes found) = hex_word found
 reply_word (shape v) = shape_word v
 reply_word (fault found block) = codes "fault"
@@ -91,6 +106,14 @@ class_line c =
 abbrev pub shape_lines : View → List ℕ
 shape_lines v = flat_map arena_line v.arenas ++ flat_map class_line v.classes
 
+-- a frame that a trace keeps: its file and its line
+unfoldable pub frame_line : PlainFrame → List ℕ
+frame_line f = codes "  " ++ f.file ++ codes ":" ++ decimal f.line ++ line_end ∷ []
+
+-- a line for each frame, oldest first
+abbrev pub frame_lines : List PlainFrame → List ℕ
+frame_lines kept = flat_map frame_line kept
+
 -- the lines of a fault, and of the block that it was found in, which has this name
 abbrev pub fault_lines : Name → Fault → Option BlockReport → List ℕ
 fault_lines name found None = fault_line found
@@ -106,6 +129,10 @@ more_lines name absent = []
 more_lines name outside = []
 more_lines name held = []
 more_lines name not_held = []
+more_lines name not_tracing = []
+more_lines name untraced = []
+more_lines name (traced current most) = []
+more_lines name (frames kept total) = frame_lines kept
 more_lines name (bytes found) = []
 more_lines name (shape v) = shape_lines v
 more_lines name (fault found block) = fault_lines name found block
@@ -182,8 +209,8 @@ arenas_line given back most =
 
 -- how many bytes are traced, and the most that were
 unfoldable pub traced_line : ℕ → ℕ → List ℕ
-traced_line traced peak =
-    codes "summary traced " ++ decimal traced ++ codes " peak " ++ decimal peak ++ line_end ∷ []
+traced_line current peak =
+    codes "summary traced " ++ decimal current ++ codes " peak " ++ decimal peak ++ line_end ∷ []
 
 -- the five lines of these numbers and this status
 abbrev pub summary_lines : List ℕ → Totals → ℕ → List ℕ

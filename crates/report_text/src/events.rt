@@ -1,19 +1,20 @@
-//! The text of an event: its line, and below it the shape of a heap or what a fault found.
-ghost use Rattle.std.specs.Prelude.{◌≡◌, ◌++◌, List, IfOk, OnOk, OnErr, IsSome, Some};
+//! The text of an event: its line, and below it the shape of a heap, the frames of a trace or what a fault
+//! found.
+ghost use Rattle.std.specs.Prelude.{◌≡◌, ◌<◌, ◌++◌, List, length, All, IfOk, OnOk, OnErr, IsSome, Some};
 ghost use Rattle.std.specs.List.{flat_map};
 ghost use Rattle.mem_base.specs.Name.{Name};
 ghost use Rattle.trace_model.specs.Plain.{action_of, text_at};
 ghost use Rattle.trace_model.specs.Known.{IsKnown, IsKnownOp, IsKnownTrace, op_at};
-ghost use Rattle.event_model.specs.Replies.{plain_reply};
+ghost use Rattle.event_model.specs.Replies.{frame_of, frames_of, plain_reply, IsKnownReply};
 ghost use Rattle.report_model.specs.Report.{reply_word, event_line, event_lines, fault_line, block_line};
 ghost use Rattle.report_model.specs.Report.{head_line, tail_line, shape_word, arena_line, pool_word};
 ghost use Rattle.report_model.specs.Report.{pools_word, class_line, shape_lines, fault_lines, more_lines};
-ghost use Rattle.report_model.specs.Report.{block_name};
+ghost use Rattle.report_model.specs.Report.{block_name, frame_line, frame_lines, frames_word, traced_word};
 ghost use Rattle.report_text.specs.Texts.{step_text, StaysInFront};
 
-use crate::words::{push_hex, push_name, push_number, push_op};
+use crate::words::{push_hex, push_name, push_number, push_op, push_wide};
 use mem_base::{
-    ArenaLine, BlockReport, ClassLine, Fault, List, Op, Reply, Step, TextId, Texts, Trace,
+    ArenaLine, BlockReport, ClassLine, Fault, Frame, List, Op, Reply, Step, TextId, Texts, Trace,
     UsedPool, View,
 };
 use std::alloc::{AllocError, Global};
@@ -33,6 +34,29 @@ fn push_shape(text: &mut Vec<u8>, view: &View) -> Result<(), AllocError>
     push_number(text, view.raws)
 }
 
+// The bytes that are traced, and the most that were.
+#[tactic(auto, unfolding(report_model::specs::Report::traced_word))]
+fn push_traced(text: &mut Vec<u8>, current: u128, most: u128) -> Result<(), AllocError>
+    ensures ok { OnOk result (text.new.items ≡ text.old.items ++ traced_word current most) }
+    ensures err { OnErr result (StaysInFront text.old.items text.new.items) }
+{
+    push_wide(text, current)?;
+    text.push(b' ')?;
+    push_wide(text, most)
+}
+
+// How many frames a trace keeps, and of how many.
+#[tactic(auto, unfolding(report_model::specs::Report::frames_word))]
+fn push_kept(text: &mut Vec<u8>, kept: usize, total: u32) -> Result<(), AllocError>
+    ensures ok { OnOk result (text.new.items ≡ text.old.items ++ frames_word kept total) }
+    ensures err { OnErr result (StaysInFront text.old.items text.new.items) }
+{
+    text.extend_from_slice(b"frames ")?;
+    push_number(text, kept as u64)?;
+    text.extend_from_slice(b" of ")?;
+    push_number(text, u64::from(total))
+}
+
 fn push_reply(text: &mut Vec<u8>, reply: &Reply) -> Result<(), AllocError>
     ensures ok { (texts : List Name)
         → OnOk result (text.new.items ≡ text.old.items ++ reply_word (plain_reply texts reply.now)) }
@@ -46,15 +70,15 @@ fn push_reply(text: &mut Vec<u8>, reply: &Reply) -> Result<(), AllocError>
         Reply::Outside => text.extend_from_slice(b"outside"),
         Reply::Held => text.extend_from_slice(b"held"),
         Reply::NotHeld => text.extend_from_slice(b"not_held"),
+        Reply::NotTracing => text.extend_from_slice(b"not_tracing"),
+        Reply::Untraced => text.extend_from_slice(b"none"),
+        Reply::Traced(current, most) => push_traced(text, *current, *most),
+        Reply::Frames(kept, total) => push_kept(text, kept.len(), *total),
         Reply::Bytes(bytes) => push_hex(text, bytes.as_slice()),
         Reply::Heap(view) => push_shape(text, view),
         Reply::Fault(_, _) => text.extend_from_slice(b"fault"),
-        Reply::NotTracing
-        | Reply::NoSnapshot
-        | Reply::Untraced
-        | Reply::Traced(_, _)
+        Reply::NoSnapshot
         | Reply::Kept(_)
-        | Reply::Frames(_, _)
         | Reply::Groups(_, _)
         | Reply::Diffs(_, _)
         | Reply::Dumped(_) => Ok(()),
@@ -174,6 +198,33 @@ fn push_shape_lines(text: &mut Vec<u8>, view: &View) -> Result<(), AllocError>
     push_class_lines(text, view.classes.as_slice())
 }
 
+// ---- the frames of a trace
+
+#[tactic(auto, unfolding(report_model::specs::Report::frame_line))]
+fn push_frame_line(text: &mut Vec<u8>, texts: &Texts, frame: Frame) -> Result<(), AllocError>
+    requires { IsKnown texts.now frame.file }
+    ensures ok { OnOk result (text.new.items ≡ text.old.items ++ frame_line (frame_of texts.now frame)) }
+    ensures err { OnErr result (StaysInFront text.old.items text.new.items) }
+{
+    text.extend_from_slice(b"  ")?;
+    text.extend_from_slice(texts.get(frame.file))?;
+    text.push(b':')?;
+    push_number(text, u64::from(frame.line))?;
+    text.push(b'\n')?;
+    Ok(())
+}
+
+fn push_frame_lines(text: &mut Vec<u8>, texts: &Texts, kept: &[Frame]) -> Result<(), AllocError>
+    requires { All (λ f. IsKnown texts.now f.file) kept.now }
+    ensures ok { OnOk result (text.new.items ≡ text.old.items ++ frame_lines (frames_of texts.now kept.now)) }
+    ensures err { OnErr result (StaysInFront text.old.items text.new.items) }
+{
+    for frame in kept {
+        push_frame_line(text, texts, *frame)?;
+    }
+    Ok(())
+}
+
 // ---- what a fault found
 
 #[tactic(auto, unfolding(report_model::specs::Report::fault_line))]
@@ -272,13 +323,20 @@ fn name_of_block<'a>(texts: &'a Texts, op: &Op) -> &'a [u8]
 }
 
 // The lines below that of the event.
-fn push_more_lines(text: &mut Vec<u8>, name: &[u8], reply: &Reply) -> Result<(), AllocError>
-    ensures ok { (texts : List Name)
-        → OnOk result (text.new.items ≡ text.old.items ++ more_lines name.now (plain_reply texts reply.now)) }
+fn push_more_lines(
+    text: &mut Vec<u8>,
+    texts: &Texts,
+    name: &[u8],
+    reply: &Reply,
+) -> Result<(), AllocError>
+    requires { IsKnownReply (length texts.now) reply.now }
+    ensures ok { OnOk result (text.new.items
+        ≡ text.old.items ++ more_lines name.now (plain_reply texts.now reply.now)) }
     ensures err { OnErr result (StaysInFront text.old.items text.new.items) }
 {
     match reply {
         Reply::Heap(view) => push_shape_lines(text, view),
+        Reply::Frames(kept, _) => push_frame_lines(text, texts, kept.as_slice()),
         Reply::Fault(fault, None) => push_fault_line(text, *fault),
         Reply::Fault(fault, Some(block)) => push_block(text, *fault, name, block),
         Reply::Ok
@@ -294,7 +352,6 @@ fn push_more_lines(text: &mut Vec<u8>, name: &[u8], reply: &Reply) -> Result<(),
         | Reply::Bytes(_)
         | Reply::Traced(_, _)
         | Reply::Kept(_)
-        | Reply::Frames(_, _)
         | Reply::Groups(_, _)
         | Reply::Diffs(_, _)
         | Reply::Dumped(_) => Ok(()),
@@ -312,18 +369,20 @@ fn push_event_lines(
 ) -> Result<(), AllocError>
     requires track { IsKnown texts.now track }
     requires op { IsKnownOp texts.now op.now }
+    requires reply { IsKnownReply (length texts.now) reply.now }
     ensures ok { OnOk result (text.new.items ≡ text.old.items
         ++ event_lines number (text_at texts.now track) (action_of texts.now op.now)
         (plain_reply texts.now reply.now)) }
     ensures err { OnErr result (StaysInFront text.old.items text.new.items) }
 {
     push_event_line(text, texts, number, track, op, reply)?;
-    push_more_lines(text, name_of_block(texts, op), reply)
+    push_more_lines(text, texts, name_of_block(texts, op), reply)
 }
 
 /// Adds the text of the event with that number, counted from 1, to the end of a text. The step's
-/// entry names an operation of this trace. The error is that there was no memory for it: the text that
-/// stood there stands in front still, and more may stand behind it.
+/// entry names an operation of this trace, and the files of its reply are in the trace's table. The error
+/// is that there was no memory for it: the text that stood there stands in front still, and more may stand
+/// behind it.
 pub fn push_event(
     text: &mut Vec<u8>,
     number: u64,
@@ -332,6 +391,7 @@ pub fn push_event(
 ) -> Result<(), AllocError>
     requires known { IsKnownTrace trace.now }
     requires op { IsSome (op_at trace.now.tracks step.now.entry.track step.now.entry.at) }
+    requires reply { IsKnownReply (length trace.now.texts) step.now.reply }
     ensures ok { OnOk result (text.new.items ≡ text.old.items ++ step_text trace.now number step.now) }
     ensures err { OnErr result (StaysInFront text.old.items text.new.items) }
 {
@@ -345,7 +405,8 @@ pub fn push_event(
 }
 
 /// The text of the event with that number, counted from 1. The step's entry names an operation of
-/// this trace. The error is that there was no memory for it.
+/// this trace, and the files of its reply are in the trace's table. The error is that there was no memory
+/// for it.
 pub fn event_text(
     alloc: Global,
     number: u64,
@@ -354,6 +415,7 @@ pub fn event_text(
 ) -> Result<List<u8>, AllocError>
     requires known { IsKnownTrace trace.now }
     requires op { IsSome (op_at trace.now.tracks step.now.entry.track step.now.entry.at) }
+    requires reply { IsKnownReply (length trace.now.texts) step.now.reply }
     ensures { IfOk result (λ text. text ≡ step_text trace.now number step.now) }
 {
     let mut text = Vec::new(alloc);

@@ -3,13 +3,16 @@
 //! digits each, and sizes are in bytes.
 //!
 //! The first line of an event is its number, the name of its track, the operation as the trace
-//! spells it, an equals sign and the reply. A heap's shape and a fault have further lines, which
-//! begin with two blanks:
+//! spells it, an equals sign and the reply. A heap's shape, the frames of a trace and a fault have
+//! further lines, which begin with two blanks:
 //!
 //! ```text
 //! 3 t heap = pool 1 raw 0
 //!   arena 1 free 63 of 64
 //!   class 32 used 1:1 full 0
+//! 5 t where x = frames 2 of 3
+//!   load.py:10
+//!   read.py:7
 //! 6 t free m x = fault
 //!   bad_tail 0
 //!   block x size 32
@@ -21,6 +24,10 @@
 //! its number, its free pools and all its pools. A class's line has the size of its blocks, its
 //! partly used pools as `ARENA:LIVE` with commas between (or `-` where there is none), and how many
 //! of its pools are full.
+//!
+//! The reply of `where` counts the frames that the block's trace keeps, which are in the lines below,
+//! oldest first, and those that there were; it is `none` where the block has no trace. The reply of
+//! `traced` is two numbers, the bytes that are traced and the most that were.
 //!
 //! The summary is five lines:
 //!

@@ -2,7 +2,8 @@
 ghost use Rattle.std.specs.Prelude.{◌≡◌, ◌++◌, IfOk, OnOk, OnErr};
 ghost use Rattle.trace_model.specs.Plain.{plain};
 ghost use Rattle.trace_model.specs.Known.{IsKnownTrace};
-ghost use Rattle.report_model.specs.Report.{owner_word, events_line, lock_line, blocks_line, arenas_line, traced_line};
+ghost use Rattle.report_model.specs.Report.{owner_word, events_line, lock_line, blocks_line, arenas_line};
+ghost use Rattle.report_model.specs.Report.{traced_line};
 ghost use Rattle.report_text.specs.Texts.{summary_of, StaysInFront};
 
 use crate::words::{push_number, push_wide};

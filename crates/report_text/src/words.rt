@@ -4,6 +4,7 @@ ghost use Rattle.std.specs.Prelude.{◌≡◌, ◌+◌, ◌%◌, ◌++◌, ◌�
 ghost use Rattle.std.specs.Fmt.{signed_decimal};
 ghost use Rattle.trace_model.specs.Operands.{hex_word, letter_word, side_word, glyph};
 ghost use Rattle.trace_model.specs.Plain.{action_of, keyword_text, text_at, refuse};
+ghost use Rattle.trace_model.specs.Plain.{enter, go_to, mark, start_tracing, unmark};
 ghost use Rattle.trace_model.specs.Known.{IsKnown, IsKnownOp};
 ghost use Rattle.trace_model.specs.Spelling.{line_of, blank};
 ghost use Rattle.report_text.specs.Texts.{StaysInFront};
@@ -129,6 +130,16 @@ pub(crate) fn push_name(text: &mut Vec<u8>, texts: &Texts, name: TextId) -> Resu
     text.extend_from_slice(texts.get(name))
 }
 
+// A blank and a number.
+#[inline(always)]
+fn push_operand(text: &mut Vec<u8>, n: u64) -> Result<(), AllocError>
+    ensures ok { OnOk result (text.new.items ≡ text.old.items ++ blank ∷ decimal n) }
+    ensures err { OnErr result (StaysInFront text.old.items text.new.items) }
+{
+    text.push(b' ')?;
+    push_number(text, n)
+}
+
 // A blank and the word of a source.
 fn push_side(text: &mut Vec<u8>, side: Side) -> Result<(), AllocError>
     ensures ok { OnOk result (text.new.items ≡ text.old.items ++ blank ∷ side_word side) }
@@ -149,6 +160,56 @@ fn push_refusal(text: &mut Vec<u8>, side: Side, number: u64) -> Result<(), Alloc
     push_side(text, side)?;
     text.push(b' ')?;
     push_number(text, number)
+}
+
+// The line of a call, without its end.
+fn push_call(text: &mut Vec<u8>, texts: &Texts, file: TextId, line: u32) -> Result<(), AllocError>
+    requires { IsKnown texts.now file }
+    ensures ok { OnOk result (text.new.items ≡ text.old.items ++ line_of (enter (text_at texts.now file) line)) }
+    ensures err { OnErr result (StaysInFront text.old.items text.new.items) }
+{
+    push_keyword(text, Keyword::Call)?;
+    push_name(text, texts, file)?;
+    push_operand(text, u64::from(line))
+}
+
+// The line of a frame that goes on to another line, without its end.
+fn push_go_to(text: &mut Vec<u8>, line: u32) -> Result<(), AllocError>
+    ensures ok { OnOk result (text.new.items ≡ text.old.items ++ line_of (go_to line)) }
+    ensures err { OnErr result (StaysInFront text.old.items text.new.items) }
+{
+    push_keyword(text, Keyword::Line)?;
+    push_operand(text, u64::from(line))
+}
+
+// The line of a start of tracing, without its end.
+fn push_start(text: &mut Vec<u8>, limit: u32) -> Result<(), AllocError>
+    ensures ok { OnOk result (text.new.items ≡ text.old.items ++ line_of (start_tracing limit)) }
+    ensures err { OnErr result (StaysInFront text.old.items text.new.items) }
+{
+    push_keyword(text, Keyword::Start)?;
+    push_operand(text, u64::from(limit))
+}
+
+// The line of a number that is marked, without its end.
+fn push_mark(text: &mut Vec<u8>, domain: u32, number: u64, size: u64) -> Result<(), AllocError>
+    ensures ok { OnOk result (text.new.items ≡ text.old.items ++ line_of (mark domain number size)) }
+    ensures err { OnErr result (StaysInFront text.old.items text.new.items) }
+{
+    push_keyword(text, Keyword::Mark)?;
+    push_operand(text, u64::from(domain))?;
+    push_operand(text, number)?;
+    push_operand(text, size)
+}
+
+// The line of a number that is no longer marked, without its end.
+fn push_unmark(text: &mut Vec<u8>, domain: u32, number: u64) -> Result<(), AllocError>
+    ensures ok { OnOk result (text.new.items ≡ text.old.items ++ line_of (unmark domain number)) }
+    ensures err { OnErr result (StaysInFront text.old.items text.new.items) }
+{
+    push_keyword(text, Keyword::Unmark)?;
+    push_operand(text, u64::from(domain))?;
+    push_operand(text, number)
 }
 
 // The line of an operation, without its end.
@@ -205,20 +266,23 @@ pub(crate) fn push_op(text: &mut Vec<u8>, texts: &Texts, op: &Op) -> Result<(), 
             text.push(b' ')?;
             push_number(text, *count)
         }
+        Op::Enter(file, line) => push_call(text, texts, *file, *line),
+        Op::Line(line) => push_go_to(text, *line),
+        Op::Leave => push_keyword(text, Keyword::Return),
+        Op::Start(limit) => push_start(text, *limit),
+        Op::Stop => push_keyword(text, Keyword::Stop),
+        Op::Clear => push_keyword(text, Keyword::Clear),
+        Op::ResetPeak => push_keyword(text, Keyword::ResetPeak),
+        Op::Traced => push_keyword(text, Keyword::Traced),
+        Op::Mark(domain, number, size) => push_mark(text, *domain, *number, *size),
+        Op::Unmark(domain, number) => push_unmark(text, *domain, *number),
+        Op::Origin(name) => {
+            push_keyword(text, Keyword::Where)?;
+            push_name(text, texts, *name)
+        }
         Op::Heap => push_keyword(text, Keyword::Heap),
         Op::Refuse(side, number) => push_refusal(text, *side, *number),
-        Op::Enter(_, _)
-        | Op::Line(_)
-        | Op::Leave
-        | Op::Start(_)
-        | Op::Stop
-        | Op::Clear
-        | Op::ResetPeak
-        | Op::Traced
-        | Op::Mark(_, _, _)
-        | Op::Unmark(_, _)
-        | Op::Origin(_)
-        | Op::Snapshot(_)
+        Op::Snapshot(_)
         | Op::Keep(_, _, _)
         | Op::Stats(_, _, _, _)
         | Op::Compare(_, _, _, _, _)

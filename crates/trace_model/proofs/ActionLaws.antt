@@ -1,5 +1,7 @@
 -- Words that are read as an operation are its words, and its words are read as it.
-use Rattle.std.proofs.Common.{◌≡◌, ℕ, zero, suc, ◌<◌, ◌≤◌, Bool, true, cond, List, [], ◌∷◌, ◌++◌, length, length-append, map, slice_get, Option, Some, Ok, Err, refl, sym, ap, subst, inl, inr, lit<, arith}
+use Rattle.std.proofs.Common.{◌≡◌, ℕ, zero, suc, ◌<◌, ◌≤◌, Bool, true, cond, List, [], ◌∷◌, ◌++◌, length}
+use Rattle.std.proofs.Common.{length-append, map, slice_get, Option, Some, Ok, Err, refl, sym, ap, subst, inl}
+use Rattle.std.proofs.Common.{inr, lit<, arith}
 use Rattle.std.specs.Prelude.{nat_le, unwrap_or}
 use Rattle.std.specs.List.{AllByRecursion, list_all}
 use Rattle.std.proofs.lemmas.Bool.{leb-true, le-leb}
@@ -7,9 +9,21 @@ use Rattle.mem_base.specs.Name.{Name}
 use Rattle.mem_base.specs.declared.texts.TextId.{TextId}
 use Rattle.mem_base.specs.declared.trace.Op.{Op}
 use Rattle.mem_base.specs.declared.trace.Op.TheVariants as code
-use Rattle.mem_base.specs.declared.limits.TheConstants.{MAX_REACH, MAX_REFUSAL}
-use Rattle.trace_model.specs.Operands.{◌>>=◌, is_between, is_name, is_forged, hex_word, number_at, offset_at, count_at, refusal_at, name_at, letter_at, side_at, hex_from, hex_at}
-use Rattle.trace_model.specs.Plain.{Action, acquire, release, malloc, calloc, realloc, free, poke, peek, heap, refuse, other, keyword_text, action_of, keyword_among, keyword_of, operands_of, text_at, Fits, honest_poke, malloc_at, calloc_at, realloc_at, free_at, poke_at, peek_at, refuse_at, action_at}
+use Rattle.mem_base.specs.declared.limits.TheConstants.{MAX_FRAME_LIMIT, MAX_LINE, MAX_REACH, MAX_REFUSAL}
+use Rattle.trace_model.specs.Operands.{◌>>=◌, is_between, is_file, is_name, is_forged, max_domain, hex_word}
+use Rattle.trace_model.specs.Operands.{number_at, offset_at}
+use Rattle.trace_model.specs.Operands.{count_at, refusal_at, line_number_at, limit_at, domain_at, name_at}
+use Rattle.trace_model.specs.Operands.{file_at, letter_at}
+use Rattle.trace_model.specs.Operands.{side_at, hex_from, hex_at}
+use Rattle.trace_model.specs.Plain.{Action, acquire, release, malloc, calloc, realloc, free, poke, peek}
+use Rattle.trace_model.specs.Plain.{enter, go_to, leave}
+use Rattle.trace_model.specs.Plain.{start_tracing, stop_tracing, clear_traces, reset_peak, traced_memory}
+use Rattle.trace_model.specs.Plain.{mark, unmark, origin}
+use Rattle.trace_model.specs.Plain.{heap, refuse, other, keyword_text, action_of, keyword_among, keyword_of}
+use Rattle.trace_model.specs.Plain.{operands_of, text_at}
+use Rattle.trace_model.specs.Plain.{Fits, honest_poke, malloc_at, calloc_at, realloc_at, free_at, poke_at}
+use Rattle.trace_model.specs.Plain.{peek_at, enter_at}
+use Rattle.trace_model.specs.Plain.{go_to_at, start_tracing_at, mark_at, unmark_at, origin_at, refuse_at, action_at}
 use Rattle.trace_model.specs.Known.{IsKnown, IsKnownOp}
 use Rattle.trace_model.specs.Spelling.{words_after, line_of}
 use Rattle.trace_model.specs.Reading.{head_at}
@@ -17,8 +31,12 @@ use Rattle.trace_model.specs.declared.keyword.Keyword.{Keyword}
 use Rattle.trace_model.specs.declared.keyword.Keyword.TheVariants as keys
 use Rattle.trace_model.specs.declared.keyword.Head.TheVariants as heads
 use Rattle.trace_model.specs.declared.cause.TraceCause.TheVariants.{BadRange, BadName, ForgedLetter}
-use Rattle.trace_model.proofs.OperandLaws.{both, bind_ok, test_holds, test_fails, ok_is, one_of, number_takes, number_again, ranged_takes, ranged_again, offset_takes, offset_again, name_takes, letter_takes, letter_again, side_takes, side_again, hex_takes, hex_back}
-use Rattle.trace_model.proofs.WordLaws.{is_word, name_word, number_word, offset_word, hex_is_word, letter_is_word, side_is_word, words_plain}
+use Rattle.trace_model.proofs.OperandLaws.{both, bind_ok, test_holds, test_fails, ok_is, one_of, number_takes}
+use Rattle.trace_model.proofs.OperandLaws.{number_again, ranged_takes, ranged_again, offset_takes}
+use Rattle.trace_model.proofs.OperandLaws.{offset_again, name_takes, file_takes, letter_takes, letter_again}
+use Rattle.trace_model.proofs.OperandLaws.{side_takes, side_again, hex_takes, hex_back}
+use Rattle.trace_model.proofs.WordLaws.{is_word, name_word, file_word, number_word, offset_word, hex_is_word}
+use Rattle.trace_model.proofs.WordLaws.{letter_is_word, side_is_word, words_plain}
 
 -- ---- keywords
 
@@ -36,6 +54,17 @@ keyword_again keys.Realloc = (refl, refl)
 keyword_again keys.Free = (refl, refl)
 keyword_again keys.Poke = (refl, refl)
 keyword_again keys.Peek = (refl, refl)
+keyword_again keys.Call = (refl, refl)
+keyword_again keys.Line = (refl, refl)
+keyword_again keys.Return = (refl, refl)
+keyword_again keys.Start = (refl, refl)
+keyword_again keys.Stop = (refl, refl)
+keyword_again keys.Clear = (refl, refl)
+keyword_again keys.ResetPeak = (refl, refl)
+keyword_again keys.Traced = (refl, refl)
+keyword_again keys.Mark = (refl, refl)
+keyword_again keys.Unmark = (refl, refl)
+keyword_again keys.Where = (refl, refl)
 keyword_again keys.Heap = (refl, refl)
 keyword_again keys.Refuse = (refl, refl)
 
@@ -117,6 +146,60 @@ peek_takes name offset count a e =
     let nt = ranged_takes 1 MAX_REACH count n.0 n.1 in
     subst (Spells keys.Peek (name ∷ offset ∷ count ∷ [])) (ok_is (peek name o.0 n.0) a n.2) (refl, (λ i. name ∷ sym ot.0 i ∷ sym nt.0 i ∷ []), (name_takes name u.0 u.1, ot.1, nt.1, nt.2))
 
+enter_takes : (file line : List ℕ) (a : Action) → enter_at file line ≡ Ok a → Spells keys.Call (file ∷ line ∷ []) a
+unfolding enter_at
+enter_takes file line a e =
+    let u = bind_ok (file_at file) (λ u. line_number_at line >>= λ n. Ok (enter file n)) a e in
+    let n = bind_ok (line_number_at line) (λ n. Ok (enter file n)) a u.2 in
+    let nt = ranged_takes 0 MAX_LINE line n.0 n.1 in
+    subst (Spells keys.Call (file ∷ line ∷ [])) (ok_is (enter file n.0) a n.2)
+    (refl, (λ i. file ∷ sym nt.0 i ∷ []), (file_takes file u.0 u.1, nt.2))
+
+go_to_takes : (line : List ℕ) (a : Action) → go_to_at line ≡ Ok a → Spells keys.Line (line ∷ []) a
+unfolding go_to_at
+go_to_takes line a e =
+    let n = bind_ok (line_number_at line) (λ n. Ok (go_to n)) a e in
+    let nt = ranged_takes 0 MAX_LINE line n.0 n.1 in
+    subst (Spells keys.Line (line ∷ [])) (ok_is (go_to n.0) a n.2) (refl, (λ i. sym nt.0 i ∷ []), nt.2)
+
+start_takes : (limit : List ℕ) (a : Action) → start_tracing_at limit ≡ Ok a → Spells keys.Start (limit ∷ []) a
+unfolding start_tracing_at
+start_takes limit a e =
+    let n = bind_ok (limit_at limit) (λ n. Ok (start_tracing n)) a e in
+    let nt = ranged_takes 1 MAX_FRAME_LIMIT limit n.0 n.1 in
+    subst (Spells keys.Start (limit ∷ [])) (ok_is (start_tracing n.0) a n.2)
+    (refl, (λ i. sym nt.0 i ∷ []), (nt.1, nt.2))
+
+mark_takes : (domain number size : List ℕ) (a : Action) → mark_at domain number size ≡ Ok a
+    → Spells keys.Mark (domain ∷ number ∷ size ∷ []) a
+unfolding mark_at
+mark_takes domain number size a e =
+    let d = bind_ok (domain_at domain) (λ d. number_at number >>= λ k. number_at size >>= λ n. Ok (mark d k n)) a e in
+    let k = bind_ok (number_at number) (λ k. number_at size >>= λ n. Ok (mark d.0 k n)) a d.2 in
+    let n = bind_ok (number_at size) (λ n. Ok (mark d.0 k.0 n)) a k.2 in
+    let dt = ranged_takes 1 max_domain domain d.0 d.1 in
+    let kt = number_takes number k.0 k.1 in
+    let nt = number_takes size n.0 n.1 in
+    subst (Spells keys.Mark (domain ∷ number ∷ size ∷ [])) (ok_is (mark d.0 k.0 n.0) a n.2)
+    (refl, (λ i. sym dt.0 i ∷ sym kt.0 i ∷ sym nt.0 i ∷ []), ((dt.1, dt.2), kt.1, nt.1))
+
+unmark_takes : (domain number : List ℕ) (a : Action) → unmark_at domain number ≡ Ok a
+    → Spells keys.Unmark (domain ∷ number ∷ []) a
+unfolding unmark_at
+unmark_takes domain number a e =
+    let d = bind_ok (domain_at domain) (λ d. number_at number >>= λ k. Ok (unmark d k)) a e in
+    let k = bind_ok (number_at number) (λ k. Ok (unmark d.0 k)) a d.2 in
+    let dt = ranged_takes 1 max_domain domain d.0 d.1 in
+    let kt = number_takes number k.0 k.1 in
+    subst (Spells keys.Unmark (domain ∷ number ∷ [])) (ok_is (unmark d.0 k.0) a k.2)
+    (refl, (λ i. sym dt.0 i ∷ sym kt.0 i ∷ []), ((dt.1, dt.2), kt.1))
+
+origin_takes : (name : List ℕ) (a : Action) → origin_at name ≡ Ok a → Spells keys.Where (name ∷ []) a
+unfolding origin_at
+origin_takes name a e =
+    let u = bind_ok (name_at name) (λ u. Ok (origin name)) a e in
+    subst (Spells keys.Where (name ∷ [])) (ok_is (origin name) a u.2) (refl, refl, name_takes name u.0 u.1)
+
 refuse_takes : (side number : List ℕ) (a : Action) → refuse_at side number ≡ Ok a → Spells keys.Refuse (side ∷ number ∷ []) a
 unfolding refuse_at
 refuse_takes side number a e =
@@ -162,6 +245,38 @@ action_takes keys.Peek (w ∷ []) a e = absurd cc
 action_takes keys.Peek (w ∷ x ∷ []) a e = absurd cc
 action_takes keys.Peek (w ∷ x ∷ y ∷ z ∷ ws) a e = absurd cc
 action_takes keys.Peek (name ∷ offset ∷ count ∷ []) a e = peek_takes name offset count a e
+action_takes keys.Call [] a e = absurd cc
+action_takes keys.Call (w ∷ []) a e = absurd cc
+action_takes keys.Call (w ∷ x ∷ y ∷ ws) a e = absurd cc
+action_takes keys.Call (file ∷ line ∷ []) a e = enter_takes file line a e
+action_takes keys.Line [] a e = absurd cc
+action_takes keys.Line (w ∷ x ∷ ws) a e = absurd cc
+action_takes keys.Line (line ∷ []) a e = go_to_takes line a e
+action_takes keys.Return [] a e = subst (Spells keys.Return []) (ok_is leave a e) (refl, refl, tt)
+action_takes keys.Return (w ∷ ws) a e = absurd cc
+action_takes keys.Start [] a e = absurd cc
+action_takes keys.Start (w ∷ x ∷ ws) a e = absurd cc
+action_takes keys.Start (limit ∷ []) a e = start_takes limit a e
+action_takes keys.Stop [] a e = subst (Spells keys.Stop []) (ok_is stop_tracing a e) (refl, refl, tt)
+action_takes keys.Stop (w ∷ ws) a e = absurd cc
+action_takes keys.Clear [] a e = subst (Spells keys.Clear []) (ok_is clear_traces a e) (refl, refl, tt)
+action_takes keys.Clear (w ∷ ws) a e = absurd cc
+action_takes keys.ResetPeak [] a e = subst (Spells keys.ResetPeak []) (ok_is reset_peak a e) (refl, refl, tt)
+action_takes keys.ResetPeak (w ∷ ws) a e = absurd cc
+action_takes keys.Traced [] a e = subst (Spells keys.Traced []) (ok_is traced_memory a e) (refl, refl, tt)
+action_takes keys.Traced (w ∷ ws) a e = absurd cc
+action_takes keys.Mark [] a e = absurd cc
+action_takes keys.Mark (w ∷ []) a e = absurd cc
+action_takes keys.Mark (w ∷ x ∷ []) a e = absurd cc
+action_takes keys.Mark (w ∷ x ∷ y ∷ z ∷ ws) a e = absurd cc
+action_takes keys.Mark (domain ∷ number ∷ size ∷ []) a e = mark_takes domain number size a e
+action_takes keys.Unmark [] a e = absurd cc
+action_takes keys.Unmark (w ∷ []) a e = absurd cc
+action_takes keys.Unmark (w ∷ x ∷ y ∷ ws) a e = absurd cc
+action_takes keys.Unmark (domain ∷ number ∷ []) a e = unmark_takes domain number a e
+action_takes keys.Where [] a e = absurd cc
+action_takes keys.Where (w ∷ x ∷ ws) a e = absurd cc
+action_takes keys.Where (name ∷ []) a e = origin_takes name a e
 action_takes keys.Heap [] a e = subst (Spells keys.Heap []) (ok_is heap a e) (refl, refl, tt)
 action_takes keys.Heap (w ∷ ws) a e = absurd cc
 action_takes keys.Refuse [] a e = absurd cc
@@ -173,6 +288,9 @@ action_takes keys.Refuse (side ∷ number ∷ []) a e = refuse_takes side number
 
 name_again : (name : Name) → is_name name ≡ true → name_at name ≡ Ok tt
 name_again name is = ap (λ (b : Bool). cond b (Ok tt) (Err BadName)) is
+
+file_again : (file : Name) → is_file file ≡ true → file_at file ≡ Ok tt
+file_again file is = ap (λ (b : Bool). cond b (Ok tt) (Err BadName)) is
 
 hex_again : (bytes : List ℕ) → AllByRecursion (λ b. b < 256) bytes → 1 ≤ length bytes → length bytes ≤ MAX_REACH → hex_at (hex_word bytes) ≡ Ok bytes
 unfolding hex_at
@@ -186,7 +304,7 @@ pub record Spelt (a : Action) : Type 0 where
   pub words : AllByRecursion (λ w. is_word w ≡ true) (operands_of a)
 
 pub action_again : (a : Action) → Fits a → Spelt a
-unfolding action_at malloc_at calloc_at realloc_at free_at poke_at peek_at refuse_at
+unfolding action_at malloc_at calloc_at realloc_at free_at poke_at peek_at enter_at go_to_at start_tracing_at mark_at unmark_at origin_at refuse_at
 action_again acquire fits = record { keyword = keys.Acquire; is = refl; read = refl; words = tt }
 action_again release fits = record { keyword = keys.Release; is = refl; read = refl; words = tt }
 action_again (malloc letter name size) fits = record {
@@ -224,6 +342,47 @@ action_again (peek name offset count) fits = record {
   is = refl;
   read = rw (name_again name fits.0, offset_again offset fits.1, ranged_again 1 MAX_REACH count (lit< tt) fits.2 fits.3) refl;
   words = (name_word name fits.0, (offset_word offset fits.1, (number_word count (omega (arith, fits.3)), tt)));
+}
+action_again (enter file line) fits = record {
+  keyword = keys.Call;
+  is = refl;
+  read = rw (file_again file fits.0, ranged_again 0 MAX_LINE line (lit< tt) (omega arith) fits.1) refl;
+  words = (file_word file fits.0, (number_word line (omega (arith, fits.1)), tt));
+}
+action_again (go_to line) fits = record {
+  keyword = keys.Line;
+  is = refl;
+  read = rw (ranged_again 0 MAX_LINE line (lit< tt) (omega arith) fits) refl;
+  words = (number_word line (omega (arith, fits)), tt);
+}
+action_again leave fits = record { keyword = keys.Return; is = refl; read = refl; words = tt }
+action_again (start_tracing limit) fits = record {
+  keyword = keys.Start;
+  is = refl;
+  read = rw (ranged_again 1 MAX_FRAME_LIMIT limit (lit< tt) fits.0 fits.1) refl;
+  words = (number_word limit (omega (arith, fits.1)), tt);
+}
+action_again stop_tracing fits = record { keyword = keys.Stop; is = refl; read = refl; words = tt }
+action_again clear_traces fits = record { keyword = keys.Clear; is = refl; read = refl; words = tt }
+action_again reset_peak fits = record { keyword = keys.ResetPeak; is = refl; read = refl; words = tt }
+action_again traced_memory fits = record { keyword = keys.Traced; is = refl; read = refl; words = tt }
+action_again (mark domain number size) fits = record {
+  keyword = keys.Mark;
+  is = refl;
+  read = rw (ranged_again 1 max_domain domain (lit< tt) fits.0.0 fits.0.1, number_again number fits.1, number_again size fits.2) refl;
+  words = (number_word domain (omega (arith, fits.0.1)), (number_word number fits.1, (number_word size fits.2, tt)));
+}
+action_again (unmark domain number) fits = record {
+  keyword = keys.Unmark;
+  is = refl;
+  read = rw (ranged_again 1 max_domain domain (lit< tt) fits.0.0 fits.0.1, number_again number fits.1) refl;
+  words = (number_word domain (omega (arith, fits.0.1)), (number_word number fits.1, tt));
+}
+action_again (origin name) fits = record {
+  keyword = keys.Where;
+  is = refl;
+  read = rw (name_again name fits) refl;
+  words = (name_word name fits, tt);
 }
 action_again heap fits = record { keyword = keys.Heap; is = refl; read = refl; words = tt }
 action_again (refuse side number) fits = record {
@@ -263,6 +422,17 @@ action_stays texts more (code.Realloc letter name size) known = ap (λ (n : Name
 action_stays texts more (code.Free letter name) known = ap (λ (n : Name). free letter n) (text_stays texts more name known)
 action_stays texts more (code.Poke name offset bytes) known = ap (λ (n : Name). poke n offset bytes) (text_stays texts more name known.0)
 action_stays texts more (code.Peek name offset count) known = ap (λ (n : Name). peek n offset count) (text_stays texts more name known.0)
+action_stays texts more (code.Enter file line) known = ap (λ (n : Name). enter n line) (text_stays texts more file known.0)
+action_stays texts more (code.Line line) known = refl
+action_stays texts more code.Leave known = refl
+action_stays texts more (code.Start limit) known = refl
+action_stays texts more code.Stop known = refl
+action_stays texts more code.Clear known = refl
+action_stays texts more code.ResetPeak known = refl
+action_stays texts more code.Traced known = refl
+action_stays texts more (code.Mark domain number size) known = refl
+action_stays texts more (code.Unmark domain number) known = refl
+action_stays texts more (code.Origin name) known = ap origin (text_stays texts more name known)
 action_stays texts more code.Heap known = refl
 action_stays texts more (code.Refuse side number) known = refl
 action_stays texts more op known = absurd known
@@ -276,6 +446,17 @@ op_stays texts more (code.Realloc letter name size) known = known_stays texts mo
 op_stays texts more (code.Free letter name) known = known_stays texts more name known
 op_stays texts more (code.Poke name offset bytes) known = (known_stays texts more name known.0, known.1, known.2, known.3)
 op_stays texts more (code.Peek name offset count) known = (known_stays texts more name known.0, known.1, known.2, known.3)
+op_stays texts more (code.Enter file line) known = (known_stays texts more file known.0, known.1)
+op_stays texts more (code.Line line) known = known
+op_stays texts more code.Leave known = tt
+op_stays texts more (code.Start limit) known = known
+op_stays texts more code.Stop known = tt
+op_stays texts more code.Clear known = tt
+op_stays texts more code.ResetPeak known = tt
+op_stays texts more code.Traced known = tt
+op_stays texts more (code.Mark domain number size) known = known
+op_stays texts more (code.Unmark domain number) known = known
+op_stays texts more (code.Origin name) known = known_stays texts more name known
 op_stays texts more code.Heap known = tt
 op_stays texts more (code.Refuse side number) known = known
 op_stays texts more op known = absurd known

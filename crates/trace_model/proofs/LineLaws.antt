@@ -1,5 +1,6 @@
 -- A line that is read is spelled so, and what is spelled so is read.
-use Rattle.std.proofs.Common.{◌≡◌, ℕ, Bool, true, false, cond, ◌||◌, List, [], ◌∷◌, length, Result, Ok, Err, refl, sym, ap, subst, ◌∙◌, ◌≤◌, arith, lit<, true≢false, inl, inr}
+use Rattle.std.proofs.Common.{◌≡◌, ℕ, Bool, true, false, cond, ◌||◌, List, [], ◌∷◌, length, Result, Ok, Err}
+use Rattle.std.proofs.Common.{refl, sym, ap, subst, ◌∙◌, ◌≤◌, arith, lit<, true≢false, inl, inr}
 use Rattle.std.specs.Prelude.{◌==◌}
 use Rattle.std.specs.List.{AllByRecursion, list_all, list_any, slice_split, join_with_byte}
 use Rattle.std.specs.Str.{bytes_eq}
@@ -16,8 +17,10 @@ use Rattle.trace_model.specs.declared.keyword.Head.{Head}
 use Rattle.trace_model.specs.declared.keyword.Head.TheVariants as heads
 use Rattle.trace_model.specs.declared.cause.TraceCause.{TraceCause}
 use Rattle.trace_model.specs.declared.cause.TraceCause.TheVariants.{BadByte, BadName, Misplaced, BadWords}
-use Rattle.trace_model.specs.Reading.{head_at, start, add, index_of, pick, pick_at, is_empty, is_misplaced, item_at, words_at, line_at}
-use Rattle.trace_model.proofs.OperandLaws.{bind_ok, test_holds, test_fails, ok_is, one_of, name_takes, ranged_takes, ranged_again}
+use Rattle.trace_model.specs.Reading.{head_at, start, add, index_of, pick, pick_at, is_empty, is_misplaced}
+use Rattle.trace_model.specs.Reading.{item_at, words_at, line_at}
+use Rattle.trace_model.proofs.OperandLaws.{bind_ok, test_holds, test_fails, ok_is, one_of, name_takes}
+use Rattle.trace_model.proofs.OperandLaws.{ranged_takes, ranged_again}
 use Rattle.trace_model.proofs.ActionLaws.{keyword_takes, keyword_again, action_takes, action_again}
 use Rattle.trace_model.proofs.WordLaws.{is_word, track_words_fit, pick_words_fit, words_again, words_plain}
 

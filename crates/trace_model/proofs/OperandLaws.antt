@@ -1,11 +1,15 @@
 -- An operand that is read is spelled so, and what is spelled so is read.
-use Rattle.std.proofs.Common.{◌≡◌, ℕ, zero, suc, ◌+◌, ◌-◌, ◌*◌, ◌/◌, ◌%◌, ◌^◌, ◌<◌, ◌≤◌, Bool, true, false, cond, ◌&&◌, List, [], ◌∷◌, length, get_or, Option, Some, None, Result, Ok, Err, ℤ, pos, negsuc, lit<, refl, sym, ap, subst, ◌∙◌, arith, inl, inr, ◌⊎◌, true≢false, rules}
+use Rattle.std.proofs.Common.{◌≡◌, ℕ, zero, suc, ◌+◌, ◌-◌, ◌*◌, ◌/◌, ◌%◌, ◌^◌, ◌<◌, ◌≤◌, Bool, true, false}
+use Rattle.std.proofs.Common.{cond, ◌&&◌, List, [], ◌∷◌, length, get_or, Option, Some, None, Result, Ok, Err}
+use Rattle.std.proofs.Common.{ℤ, pos, negsuc, lit<, refl, sym, ap, subst, ◌∙◌, arith, inl, inr, ◌⊎◌}
+use Rattle.std.proofs.Common.{true≢false, rules}
 use Rattle.std.specs.Prelude.{nat_lt, nat_le, ◌==◌, decimal}
 use Rattle.std.specs.List.{AllByRecursion}
 use Rattle.std.specs.Fmt.{signed_decimal}
 use Rattle.std.specs.Str.{bytes_eq}
 use Rattle.std.proofs.lemmas.Bool.{eqb-true, ltb-true, leb-true, lt-ltb, le-ltb, le-leb, lt-leb, cases_lt}
-use Rattle.std.proofs.lemmas.Fmt.{digits_decimal, digits_value-decimal, decimal-digits_value, decimal_nonempty, first_decimal, decimal_digit}
+use Rattle.std.proofs.lemmas.Fmt.{digits_decimal, digits_value-decimal, decimal-digits_value}
+use Rattle.std.proofs.lemmas.Fmt.{decimal_nonempty, first_decimal, decimal_digit}
 use Rattle.std.proofs.lemmas.Slice.Eq.{bytes_eq-Decides}
 use Rattle.std.proofs.lemmas.Str.Parse.{IsNumeralModel, numerals_by_fold}
 use Rattle.mem_base.specs.declared.trace.Letter.{Letter}
@@ -15,7 +19,10 @@ use Rattle.mem_base.specs.declared.trace.Side.TheVariants as sides
 use Rattle.mem_base.specs.Offset.{IsOffset}
 use Rattle.trace_model.specs.declared.cause.TraceCause.{TraceCause}
 use Rattle.trace_model.specs.declared.cause.TraceCause.TheVariants.{BadNumber, BadRange, BadName}
-use Rattle.trace_model.specs.Operands.{◌>>=◌, is_between, is_name, letter_word, side_word, hex_word, glyph, digits_from, number_at, forward_at, backward_at, offset_at, number_in, name_at, letter_at, side_at, digit_of, with_byte, hex_from}
+use Rattle.trace_model.specs.Operands.{◌>>=◌, is_between, is_file, is_name, letter_word, side_word, hex_word}
+use Rattle.trace_model.specs.Operands.{glyph, digits_from, number_at, forward_at, backward_at, offset_at}
+use Rattle.trace_model.specs.Operands.{number_in, name_at, file_at, letter_at, side_at, digit_of, with_byte}
+use Rattle.trace_model.specs.Operands.{hex_from}
 
 -- the value of a step that did not fail
 pub bind_ok : {A B : Type 0} (r : Result A TraceCause) (f : A → Result B TraceCause) (y : B) → (r >>= f) ≡ Ok y → (x : A) × (r ≡ Ok x) × (f x ≡ Ok y)
@@ -185,10 +192,13 @@ offset_again (pos n) lt =
 offset_again (negsuc n) lt =
     ap (λ (r : Result ℕ TraceCause). r >>= backward_at) (number_again (suc n) (omega (arith, lt))) ∙ ap (λ (b : Bool). cond b (Ok (negsuc n)) (Err BadRange)) (lt-ltb _ _ lt)
 
--- ---- names, letters and sides
+-- ---- names, files, letters and sides
 
 pub name_takes : (w : List ℕ) (u : Unit {0}) → name_at w ≡ Ok u → is_name w ≡ true
 name_takes w u e = (test_holds (is_name w) (Ok tt) BadName u e).0
+
+pub file_takes : (w : List ℕ) (u : Unit {0}) → file_at w ≡ Ok u → is_file w ≡ true
+file_takes w u e = (test_holds (is_file w) (Ok tt) BadName u e).0
 
 -- one of several texts
 pub one_of : {K : Type 0} (text : K → List ℕ) (w : List ℕ) (k : K) (rest : Result K TraceCause) (y : K) → cond (bytes_eq w (text k)) (Ok k) rest ≡ Ok y → (w ≡ text y) ⊎ (rest ≡ Ok y)

@@ -11,9 +11,9 @@ use Rattle.std.proofs.lemmas.Map.Views.{any-filter_same}
 use Rattle.std.proofs.lemmas.Slice.Eq.{bytes_eq-Decides}
 use Rattle.mem_base.specs.Name.{Name}
 use Rattle.mem_base.specs.Texts.{unknown, with_text}
-use Rattle.trace_model.specs.Plain.{Action, PlainTrack, name_of}
+use Rattle.trace_model.specs.Plain.{Action, PlainTrack, text_of}
 use Rattle.trace_model.specs.Reading.{with_action}
-use Rattle.trace_model.specs.Table.{blocks_in, names_in, firsts, table_of, with_block}
+use Rattle.trace_model.specs.Table.{texts_in, names_in, firsts, table_of, with_text_of}
 use Rattle.trace_model.proofs.TrackLaws.{suc_not_zero}
 
 -- ---- one more text of a list
@@ -79,33 +79,33 @@ firsts_push (y ∷ ys) x = ap (λ (l : List Name). y ∷ filter (differs y) l) (
 
 -- ---- one more line
 
-blocks_push : (actions : List Action) (a : Action)
-    → blocks_in (actions ++ a ∷ []) ≡ blocks_in actions ++ option_to_list (name_of a)
-blocks_push actions a =
-    flat_map-append (λ b. option_to_list (name_of b)) actions (a ∷ [])
-    ∙ ap (λ (l : List Name). blocks_in actions ++ l) (append-nil (option_to_list (name_of a)))
+texts_push : (actions : List Action) (a : Action)
+    → texts_in (actions ++ a ∷ []) ≡ texts_in actions ++ option_to_list (text_of a)
+texts_push actions a =
+    flat_map-append (λ b. option_to_list (text_of b)) actions (a ∷ [])
+    ∙ ap (λ (l : List Name). texts_in actions ++ l) (append-nil (option_to_list (text_of a)))
 
 pub table_with_track : (ts : List PlainTrack) (name : Name)
     → table_of (ts ++ record { name = name; actions = [] } ∷ []) ≡ with_text (table_of ts) name
 table_with_track ts name =
     ap (λ (l : List Name). firsts (unknown ∷ l))
-    (flat_map-append (λ t. t.name ∷ blocks_in t.actions) ts (record { name = name; actions = [] } ∷ []))
+    (flat_map-append (λ t. t.name ∷ texts_in t.actions) ts (record { name = name; actions = [] } ∷ []))
     ∙ firsts_push (unknown ∷ names_in ts) name
 
 names_with : (ts : List PlainTrack) (a : Action) → (length ts == 0) ≡ false
-    → names_in (with_action ts a) ≡ names_in ts ++ option_to_list (name_of a)
+    → names_in (with_action ts a) ≡ names_in ts ++ option_to_list (text_of a)
 names_with [] a some = absurd (true≢false some)
 names_with (t ∷ []) a some =
-    ap (λ (l : List Name). t.name ∷ l) (append-nil (blocks_in (t.actions ++ a ∷ [])) ∙ blocks_push t.actions a
-    ∙ ap (λ (l : List Name). l ++ option_to_list (name_of a)) (sym (append-nil (blocks_in t.actions))))
+    ap (λ (l : List Name). t.name ∷ l) (append-nil (texts_in (t.actions ++ a ∷ [])) ∙ texts_push t.actions a
+    ∙ ap (λ (l : List Name). l ++ option_to_list (text_of a)) (sym (append-nil (texts_in t.actions))))
 names_with (t ∷ u ∷ ts) a some =
-    ap (λ (l : List Name). (t.name ∷ blocks_in t.actions) ++ l) (names_with (u ∷ ts) a (suc_not_zero (length ts)))
-    ∙ sym (append_assoc (t.name ∷ blocks_in t.actions) (names_in (u ∷ ts)) (option_to_list (name_of a)))
+    ap (λ (l : List Name). (t.name ∷ texts_in t.actions) ++ l) (names_with (u ∷ ts) a (suc_not_zero (length ts)))
+    ∙ sym (append_assoc (t.name ∷ texts_in t.actions) (names_in (u ∷ ts)) (option_to_list (text_of a)))
 
 pub table_with_action : (ts : List PlainTrack) (a : Action) → (length ts == 0) ≡ false
-    → table_of (with_action ts a) ≡ with_block (table_of ts) (name_of a)
-table_with_action ts a some = ap (λ (l : List Name). firsts (unknown ∷ l)) (names_with ts a some) ∙ by (name_of a)
+    → table_of (with_action ts a) ≡ with_text_of (table_of ts) (text_of a)
+table_with_action ts a some = ap (λ (l : List Name). firsts (unknown ∷ l)) (names_with ts a some) ∙ by (text_of a)
   where
-    by : (o : Option Name) → firsts (unknown ∷ names_in ts ++ option_to_list o) ≡ with_block (table_of ts) o
+    by : (o : Option Name) → firsts (unknown ∷ names_in ts ++ option_to_list o) ≡ with_text_of (table_of ts) o
     by None = ap (λ (l : List Name). firsts (unknown ∷ l)) (append-nil (names_in ts))
     by (Some name) = firsts_push (unknown ∷ names_in ts) name

@@ -1,5 +1,7 @@
 -- What is read is spelled so, and what is spelled so is read.
-use Rattle.std.proofs.Common.{◌≡◌, ℕ, zero, suc, ◌+◌, ◌<◌, ◌≤◌, Bool, true, false, cond, not, ◌&&◌, ◌||◌, List, [], ◌∷◌, ◌++◌, length, Result, Ok, Err, refl, sym, ap, subst, ◌∙◌, append_assoc, append-nil, arith, length-append, lit<, true≢false}
+use Rattle.std.proofs.Common.{◌≡◌, ℕ, zero, suc, ◌+◌, ◌<◌, ◌≤◌, Bool, true, false, cond, not, ◌&&◌, ◌||◌}
+use Rattle.std.proofs.Common.{List, [], ◌∷◌, ◌++◌, length, Result, Ok, Err, refl, sym, ap, subst, ◌∙◌}
+use Rattle.std.proofs.Common.{append_assoc, append-nil, arith, length-append, lit<, true≢false}
 use Rattle.std.specs.Prelude.{◌==◌, nat_le, nat_lt, decimal}
 use Rattle.std.specs.List.{AllByRecursion, list_all, list_any, slice_split, join_with_byte}
 use Rattle.std.specs.Str.{bytes_eq}
@@ -14,20 +16,31 @@ use Rattle.mem_base.specs.declared.limits.TheConstants.{MAX_OPS, MAX_PICKS, MAX_
 use Rattle.mem_base.specs.Texts.{IsDistinct}
 use Rattle.mem_base.specs.Name.{Name}
 use Rattle.trace_model.specs.Operands.{is_between, is_name}
-use Rattle.trace_model.specs.Plain.{Action, PlainTrack, PlainTrace, is_report, Fits}
-use Rattle.trace_model.specs.Spelling.{head_text, line_of, track_line, pick_line, with_end, action_lines, track_lines, pick_lines, names_of, name_at_index, action_count, reports_in, report_count, pick_count, header, body, spelling, line_end, FitsTrack, FitsPick, IsWellFormed}
+use Rattle.trace_model.specs.Plain.{Action, PlainTrack, PlainTrace, is_report, depth, has_frame, keeps_few}
+use Rattle.trace_model.specs.Plain.{Fits, KeepFrames}
+use Rattle.trace_model.specs.Spelling.{head_text, line_of, track_line, pick_line, with_end, action_lines}
+use Rattle.trace_model.specs.Spelling.{track_lines, pick_lines, names_of, name_at_index, action_count}
+use Rattle.trace_model.specs.Spelling.{reports_in, report_count, pick_count, header, body, spelling, line_end}
+use Rattle.trace_model.specs.Spelling.{FitsTrack, FitsPick, IsWellFormed}
 use Rattle.trace_model.specs.declared.keyword.Keyword.{Keyword}
 use Rattle.trace_model.specs.declared.keyword.Head.TheVariants as heads
 use Rattle.trace_model.specs.declared.cause.TraceCause.{TraceCause}
-use Rattle.trace_model.specs.declared.cause.TraceCause.TheVariants.{BadEnd, BadHeader, SameTrack, TooMany}
-use Rattle.trace_model.specs.Reading.{Stop, then_lines, line_at, lines_at, header_at, trace_at, opening, is_empty, index_of, pick, start, with_track, with_action, has_room, add}
+use Rattle.trace_model.specs.declared.cause.TraceCause.TheVariants.{BadEnd, BadHeader, NoFrame, SameTrack, TooMany}
+use Rattle.trace_model.specs.Reading.{Stop, then_lines, line_at, lines_at, header_at, trace_at, opening}
+use Rattle.trace_model.specs.Reading.{is_empty, index_of, pick, start, with_track, with_action, open_frames}
+use Rattle.trace_model.specs.Reading.{has_room, add}
 use Rattle.trace_model.proofs.OperandLaws.{both, test_holds, test_fails, ok_is}
 use Rattle.trace_model.proofs.WordLaws.{words_plain, track_words_fit, pick_words_fit, cut_first, not_sep}
 use Rattle.trace_model.proofs.ActionLaws.{line_words}
-use Rattle.trace_model.proofs.LineLaws.{Adds, a_track, a_pick, an_action, line_takes, action_line_again, track_line_again, pick_line_again}
+use Rattle.trace_model.proofs.LineLaws.{Adds, a_track, a_pick, an_action, line_takes, action_line_again}
+use Rattle.trace_model.proofs.LineLaws.{track_line_again, pick_line_again}
 use Rattle.trace_model.proofs.NameLaws.{distinct_push, fresh_name, names_with, index_takes, index_again}
 use Rattle.trace_model.proofs.LineSteps.{with_header, with_line}
-use Rattle.trace_model.proofs.TrackLaws.{all_push, lines_of, new_track, count_of_new, reports_of_new, reports_in-cons, reports_in-push, room_kept, room_had, suc_not_zero, length-with_action, action_count-with, report_count-with, fits_with, lines_with, with_last, counts_with_last, reports_with_last}
+use Rattle.trace_model.proofs.TrackLaws.{all_push, lines_of, new_track, count_of_new, reports_of_new}
+use Rattle.trace_model.proofs.TrackLaws.{reports_in-cons, reports_in-push, room_kept, room_had, depth_push}
+use Rattle.trace_model.proofs.TrackLaws.{open_with_last, suc_not_zero, length-with_action, action_count-with}
+use Rattle.trace_model.proofs.TrackLaws.{report_count-with, fits_with, lines_with, with_last}
+use Rattle.trace_model.proofs.TrackLaws.{counts_with_last, reports_with_last}
 
 abbrev fine : PlainTrace → Result PlainTrace Stop
 fine t = Ok t
@@ -63,7 +76,7 @@ start_grows t u name named none e well =
     let differ = test_fails (list_any (λ track. bytes_eq track.name name) t.tracks) (cond (nat_lt (length t.tracks) MAX_TRACKS) (Ok (with_track t name)) (Err TooMany)) SameTrack u e in
     let p = test_holds (nat_lt (length t.tracks) MAX_TRACKS) (Ok (with_track t name)) TooMany u differ.1 in
     let few : length t.tracks < MAX_TRACKS = ltb-true _ _ p.0 in
-    let fit : FitsTrack (record { name = name; actions = [] }) = record { name = named; actions = tt } in
+    let fit : FitsTrack (record { name = name; actions = [] }) = record { name = named; actions = tt; frames = tt } in
     let more = length-append t.tracks (record { name = name; actions = [] } ∷ []) in
     subst (Grows t (track_line name)) (ok_is (with_track t name) u p.1) (
       record {
@@ -78,10 +91,19 @@ start_grows t u name named none e well =
       bare t.tracks (t.tracks ++ record { name = name; actions = [] } ∷ []) t.picks (track_line name) none (new_track t.tracks name),
     )
 
+-- what is not untrue
+is_so : (b : Bool) → not b ≡ false → b ≡ true
+is_so true e = refl
+is_so false e = sym e
+
 add_grows : (t u : PlainTrace) (a : Action) → Fits a → (length t.tracks == 0) ≡ false → t.picks ≡ [] → add t a ≡ Ok u → IsWellFormed t → Grows t (line_of a) u
 add_grows t u a fits some none e well =
-    let p = test_holds (has_room t a) (Ok (record t { tracks = with_action t.tracks a })) TooMany u e in
-    let rooms = both (nat_lt (action_count t.tracks) MAX_OPS) (not (is_report a) || nat_lt (report_count t.tracks) MAX_REPORTS) p.0 in
+    let height = open_frames t.tracks in
+    let longer = record t { tracks = with_action t.tracks a } in
+    let f = test_fails (not (has_frame height a)) (cond (has_room t a && keeps_few height a) (Ok longer) (Err TooMany)) NoFrame u e in
+    let p = test_holds (has_room t a && keeps_few height a) (Ok longer) TooMany u f.1 in
+    let allowed = both (has_room t a) (keeps_few height a) p.0 in
+    let rooms = both (nat_lt (action_count t.tracks) MAX_OPS) (not (is_report a) || nat_lt (report_count t.tracks) MAX_REPORTS) allowed.0 in
     let room : action_count t.tracks < MAX_OPS = ltb-true _ _ rooms.0 in
     let same = length-with_action t.tracks a in
     subst (Grows t (line_of a)) (ok_is (record t { tracks = with_action t.tracks a }) u p.1) (
@@ -90,7 +112,7 @@ add_grows t u a fits some none e well =
         distinct = subst IsDistinct (sym (names_with t.tracks a)) well.distinct;
         few = omega (arith, action_count-with t.tracks a some, room);
         reports = omega (arith, report_count-with t.tracks a some, room_kept (is_report a) (report_count t.tracks) MAX_REPORTS rooms.1 well.reports);
-        fits = fits_with t.tracks a fits well.fits;
+        fits = fits_with t.tracks a fits (is_so (has_frame height a) f.0) allowed.1 well.fits;
         picks = picks_stay t.tracks (with_action t.tracks a) t.picks (omega (arith, same)) well.picks;
         picked = well.picked;
       },
@@ -211,12 +233,12 @@ some_tracks : (ts : List PlainTrack) (t : PlainTrack) → (length (ts ++ t ∷ [
 some_tracks [] t = refl
 some_tracks (u ∷ ts) t = suc_not_zero (length (ts ++ t ∷ []))
 
-actions_again : (k : ℕ) (ts : List PlainTrack) (name : Name) (did todo : List Action) (rest : List ℕ) → AllByRecursion Fits todo
+actions_again : (k : ℕ) (ts : List PlainTrack) (name : Name) (did todo : List Action) (rest : List ℕ) → AllByRecursion Fits todo → KeepFrames (depth did) todo
     → action_count ts + length did + length todo ≤ MAX_OPS → report_count ts + reports_in did + reports_in todo ≤ MAX_REPORTS
     → ReadsOn k (unpicked (ts ++ record { name = name; actions = did } ∷ [])) (action_lines todo ++ rest) (unpicked (ts ++ record { name = name; actions = did ++ todo } ∷ [])) rest
-actions_again k ts name did [] rest fits few reports =
+actions_again k ts name did [] rest fits keep few reports =
     (k, ap (λ (acts : List Action). lines_at k (unpicked (ts ++ record { name = name; actions = acts } ∷ [])) (cut rest)) (sym (append-nil did)))
-actions_again k ts name did (a ∷ todo) rest fits few reports =
+actions_again k ts name did (a ∷ todo) rest fits keep few reports =
     let last : PlainTrack = record { name = name; actions = did } in
     let t : PlainTrace = unpicked (ts ++ last ∷ []) in
     let u : PlainTrace = unpicked (ts ++ record { name = name; actions = did ++ a ∷ [] } ∷ []) in
@@ -226,8 +248,15 @@ actions_again k ts name did (a ∷ todo) rest fits few reports =
     let for_reports : (not (is_report a) || nat_lt (report_count t.tracks) MAX_REPORTS) ≡ true =
     room_had (is_report a) (report_count t.tracks) MAX_REPORTS (omega (arith, reports_with_last ts last, counted, reports)) in
     let room : has_room t a ≡ true = (λ i. for_all i && for_reports i) in
-    let added : add t a ≡ Ok u = ap (λ (v : Bool). cond v (Ok (record t { tracks = with_action t.tracks a })) (Err TooMany)) room ∙ ap (λ (l : List PlainTrack). Ok (unpicked l)) (with_last ts last a) in
-    let on = actions_again (k + 1) ts name (did ++ a ∷ []) todo rest fits.1 (omega (arith, length-append did (a ∷ []), few)) (omega (arith, pushed, counted, reports)) in
+    let height : open_frames t.tracks ≡ depth did = open_with_last ts last in
+    let longer = record t { tracks = with_action t.tracks a } in
+    let framed : has_frame (open_frames t.tracks) a ≡ true = ap (λ (n : ℕ). has_frame n a) height ∙ keep.0 in
+    let fewer : keeps_few (open_frames t.tracks) a ≡ true = ap (λ (n : ℕ). keeps_few n a) height ∙ keep.1 in
+    let added : add t a ≡ Ok u =
+    ap (λ (v : Bool). cond (not v) (Err NoFrame) (cond (has_room t a && keeps_few (open_frames t.tracks) a) (Ok longer) (Err TooMany))) framed
+    ∙ (λ i. cond (room i && fewer i) (Ok longer) (Err TooMany)) ∙ ap (λ (l : List PlainTrack). Ok (unpicked l)) (with_last ts last a) in
+    let kept : KeepFrames (depth (did ++ a ∷ [])) todo = subst (λ (n : ℕ). KeepFrames n todo) (sym (depth_push 0 did a)) keep.2 in
+    let on = actions_again (k + 1) ts name (did ++ a ∷ []) todo rest fits.1 kept (omega (arith, length-append did (a ∷ []), few)) (omega (arith, pushed, counted, reports)) in
     let placed = λ (key : Keyword). ap (λ (b : Bool). b || false) (some_tracks ts last) in
     let read = line_in_front k t u (unpicked (ts ++ record { name = name; actions = (did ++ a ∷ []) ++ todo } ∷ [])) (line_of a) (action_lines todo ++ rest) rest
     (line_words a fits.0) (action_line_again t u a fits.0 placed added) on in (
@@ -256,7 +285,7 @@ tracks_again k done (t ∷ todo) rest well =
     let begun : start (unpicked done) t.name ≡ Ok (unpicked (done ++ last ∷ [])) =
     ap (λ (b : Bool). cond b (Err SameTrack) (cond (nat_lt (length done) MAX_TRACKS) (Ok (with_track (unpicked done) t.name)) (Err TooMany))) (fresh_name done todo t well.distinct)
     ∙ ap (λ (b : Bool). cond b (Ok (with_track (unpicked done) t.name)) (Err TooMany)) place in
-    let acts = actions_again (k + 1) done t.name [] t.actions (track_lines todo ++ rest) fit.actions (omega (arith, ops, ops_too, well.few)) (omega (arith, prints, prints_too, well.reports)) in
+    let acts = actions_again (k + 1) done t.name [] t.actions (track_lines todo ++ rest) fit.actions fit.frames (omega (arith, ops, ops_too, well.few)) (omega (arith, prints, prints_too, well.reports)) in
     let on = tracks_again acts.0 (done ++ t ∷ []) todo rest (subst (λ (ts : List PlainTrack). IsWellFormed (unpicked ts)) (sym whole) well) in
     let read = line_in_front k (unpicked done) (unpicked (done ++ last ∷ [])) (unpicked ((done ++ t ∷ []) ++ todo)) (track_line t.name) (action_lines t.actions ++ (track_lines todo ++ rest)) rest
     (words_plain (head_text heads.Track ∷ t.name ∷ []) (track_words_fit t.name fit.name)) (track_line_again (unpicked done) (unpicked (done ++ last ∷ [])) t.name fit.name refl begun) (on.0, acts.1 ∙ on.1) in (

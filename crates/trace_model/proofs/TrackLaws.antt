@@ -1,5 +1,7 @@
 -- What one more track and one more operation add to a trace's spelling.
-use Rattle.std.proofs.Common.{◌≡◌, ℕ, suc, ◌+◌, ◌<◌, ◌≤◌, Bool, true, false, cond, not, ◌||◌, List, [], ◌∷◌, ◌++◌, length, refl, sym, ap, ◌∙◌, append_assoc, append-nil, arith, length-append, true≢false}
+use Rattle.std.proofs.Common.{◌≡◌, ℕ, suc, ◌+◌, ◌<◌, ◌≤◌, Bool, true, false, cond, not, ◌||◌, List, [], ◌∷◌}
+use Rattle.std.proofs.Common.{◌++◌, length, refl, sym, ap, ◌∙◌, append_assoc, append-nil, arith}
+use Rattle.std.proofs.Common.{length-append, true≢false}
 use Rattle.std.specs.Prelude.{◌==◌, nat_lt}
 use Rattle.std.specs.List.{AllByRecursion}
 use Rattle.std.proofs.lemmas.Bool.{eqb-true, ltb-true, lt-ltb}
@@ -7,9 +9,11 @@ use Rattle.std.proofs.lemmas.List.Concat.{flat_map-cons}
 use Rattle.std.proofs.lemmas.List.Sums.{sum_by-cons, sum_by-append}
 use Rattle.std.proofs.lemmas.Grind.{flat_map-append}
 use Rattle.mem_base.specs.Name.{Name}
-use Rattle.trace_model.specs.Plain.{Action, PlainTrack, is_report, Fits}
-use Rattle.trace_model.specs.Spelling.{line_of, track_line, with_end, action_lines, track_lines, action_count, reports_in, report_count, FitsTrack}
-use Rattle.trace_model.specs.Reading.{with_action}
+use Rattle.trace_model.specs.Plain.{Action, PlainTrack, is_report, depth, depth_after, depth_from, has_frame}
+use Rattle.trace_model.specs.Plain.{keeps_few, Fits, KeepFrames}
+use Rattle.trace_model.specs.Spelling.{line_of, track_line, with_end, action_lines, track_lines, action_count}
+use Rattle.trace_model.specs.Spelling.{reports_in, report_count, FitsTrack}
+use Rattle.trace_model.specs.Reading.{open_frames, with_action}
 
 pub all_push : {X : Type 0} (P : X → Type 0) (xs : List X) (x : X) → AllByRecursion P xs → P x → AllByRecursion P (xs ++ x ∷ [])
 all_push P [] x fits fit = (fit, tt)
@@ -40,6 +44,23 @@ pub reports_of_new : (ts : List PlainTrack) (name : Name) → report_count (ts +
 reports_of_new ts name =
     let both = sum_by-append (λ t. reports_in t.actions) ts (record { name = name; actions = [] } ∷ []) in
     omega (arith, both)
+
+-- ---- frames
+
+pub depth_push : (n : ℕ) (actions : List Action) (a : Action) → depth_from n (actions ++ a ∷ []) ≡ depth_after (depth_from n actions) a
+depth_push n [] a = refl
+depth_push n (b ∷ bs) a = depth_push (depth_after n b) bs a
+
+-- one more operation keeps to the frames that are left
+frames_push : (n : ℕ) (actions : List Action) (a : Action) → KeepFrames n actions → has_frame (depth_from n actions) a ≡ true
+    → keeps_few (depth_from n actions) a ≡ true → KeepFrames n (actions ++ a ∷ [])
+frames_push n [] a keep has few = (has, few, tt)
+frames_push n (b ∷ bs) a keep has few = (keep.0, keep.1, frames_push (depth_after n b) bs a keep.2 has few)
+
+pub open_with_last : (ts : List PlainTrack) (t : PlainTrack) → open_frames (ts ++ t ∷ []) ≡ depth t.actions
+open_with_last [] t = refl
+open_with_last (u ∷ []) t = refl
+open_with_last (u ∷ v ∷ ts) t = open_with_last (v ∷ ts) t
 
 -- ---- operations that print more than a reply
 
@@ -95,10 +116,20 @@ report_count-with (t ∷ u ∷ ts) a some =
     let f = λ (v : PlainTrack). reports_in v.actions in
     omega (arith, sum_by-cons f t (with_action (u ∷ ts) a), sum_by-cons f t (u ∷ ts), report_count-with (u ∷ ts) a (suc_not_zero (length ts)))
 
-pub fits_with : (ts : List PlainTrack) (a : Action) → Fits a → AllByRecursion FitsTrack ts → AllByRecursion FitsTrack (with_action ts a)
-fits_with [] a fit fits = tt
-fits_with (t ∷ []) a fit fits = (record { name = fits.0.name; actions = all_push Fits t.actions a fits.0.actions fit }, tt)
-fits_with (t ∷ u ∷ ts) a fit fits = (fits.0, fits_with (u ∷ ts) a fit fits.1)
+-- how many frames are open with it
+pub open_with : (ts : List PlainTrack) (a : Action) → (length ts == 0) ≡ false → open_frames (with_action ts a) ≡ depth_after (open_frames ts) a
+open_with [] a some = absurd (true≢false some)
+open_with (t ∷ []) a some = depth_push 0 t.actions a
+open_with (t ∷ u ∷ []) a some = depth_push 0 u.actions a
+open_with (t ∷ u ∷ v ∷ ts) a some = open_with (u ∷ v ∷ ts) a (suc_not_zero (length (v ∷ ts)))
+
+pub fits_with : (ts : List PlainTrack) (a : Action) → Fits a → has_frame (open_frames ts) a ≡ true → keeps_few (open_frames ts) a ≡ true
+    → AllByRecursion FitsTrack ts → AllByRecursion FitsTrack (with_action ts a)
+fits_with [] a fit has few fits = tt
+fits_with (t ∷ []) a fit has few fits =
+    let actions = all_push Fits t.actions a fits.0.actions fit in
+    (record { name = fits.0.name; actions = actions; frames = frames_push 0 t.actions a fits.0.frames has few }, tt)
+fits_with (t ∷ u ∷ ts) a fit has few fits = (fits.0, fits_with (u ∷ ts) a fit has few fits.1)
 
 pub lines_with : (ts : List PlainTrack) (a : Action) → (length ts == 0) ≡ false → track_lines (with_action ts a) ≡ track_lines ts ++ with_end (line_of a)
 lines_with [] a some = absurd (true≢false some)

@@ -1,5 +1,7 @@
 -- The words of an operation hold no blank, so a line that is cut at its blanks gives them back.
-use Rattle.std.proofs.Common.{◌≡◌, ℕ, suc, ◌+◌, ◌/◌, ◌%◌, ◌^◌, ◌<◌, ◌≤◌, Bool, true, false, cond, ◌&&◌, ◌||◌, List, [], ◌∷◌, ◌++◌, length, ℤ, pos, negsuc, refl, ap, ◌∙◌, arith, inl, inr, ◌⊎◌, lit<, lit≤}
+use Rattle.std.proofs.Common.{◌≡◌, ℕ, suc, ◌+◌, ◌/◌, ◌%◌, ◌^◌, ◌<◌, ◌≤◌, Bool, true, false, cond, ◌&&◌, ◌||◌}
+use Rattle.std.proofs.Common.{List, [], ◌∷◌, ◌++◌, length, ℤ, pos, negsuc, refl, ap, ◌∙◌, arith, inl, inr}
+use Rattle.std.proofs.Common.{◌⊎◌, lit<, lit≤}
 use Rattle.std.specs.Prelude.{nat_le, ◌==◌, decimal, codes}
 use Rattle.std.specs.List.{AllByRecursion, list_all, slice_split, onto_first, join_with_byte}
 use Rattle.std.specs.Fmt.{signed_decimal}
@@ -13,7 +15,8 @@ use Rattle.mem_base.specs.declared.trace.Side.TheVariants as sides
 use Rattle.mem_base.specs.Name.{Name}
 use Rattle.mem_base.specs.declared.limits.TheConstants.{MAX_PICKS}
 use Rattle.mem_base.specs.Offset.{IsOffset}
-use Rattle.trace_model.specs.Operands.{is_between, is_name, is_name_byte, letter_word, side_word, hex_word, glyph}
+use Rattle.trace_model.specs.Operands.{is_between, is_file, is_name, is_name_byte, letter_word, side_word}
+use Rattle.trace_model.specs.Operands.{hex_word, glyph}
 use Rattle.trace_model.proofs.OperandLaws.{are_digits, own, both, low, high, between, whole}
 
 abbrev pub has_some : List ℕ → Bool
@@ -62,6 +65,12 @@ name_word name h =
     let t = both (is_between 1 32 (length name)) (list_all is_name_byte name) h in
     let l = both (nat_le 1 (length name)) (nat_le (length name) 32) t.0 in
     some_word name (leb-true 1 (length name) l.0) (all_imp is_name_byte (is_between 33 126) name_byte name t.1)
+
+pub file_word : (file : Name) → is_file file ≡ true → is_word file ≡ true
+file_word file h =
+    let t = both (is_between 1 255 (length file)) (list_all (is_between 33 126) file) h in
+    let l = both (nat_le 1 (length file)) (nat_le (length file) 255) t.0 in
+    some_word file (leb-true 1 (length file) l.0) t.1
 
 digits_all : (ds : List ℕ) → are_digits ds ≡ true → list_all (is_between 33 126) ds ≡ true
 digits_all [] h = refl

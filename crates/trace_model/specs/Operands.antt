@@ -4,7 +4,8 @@ use Rattle.std.specs.Prelude.{◌||◌, nat_le, nat_lt, ◌==◌, if◌then◌el
 use Rattle.std.specs.Prelude.{None, Result, Ok, Err, codes}
 use Rattle.std.specs.List.{list_all}
 use Rattle.std.specs.Str.{bytes_eq}
-use Rattle.mem_base.specs.declared.limits.TheConstants.{MAX_NAME, MAX_PICKS, MAX_REACH, MAX_REFUSAL}
+use Rattle.mem_base.specs.declared.limits.TheConstants.{MAX_FILE, MAX_FRAME_LIMIT, MAX_LINE, MAX_NAME, MAX_PICKS}
+use Rattle.mem_base.specs.declared.limits.TheConstants.{MAX_REACH, MAX_REFUSAL}
 use Rattle.mem_base.specs.declared.trace.Letter.{Letter}
 use Rattle.mem_base.specs.declared.trace.Letter.TheVariants.{Raw, Mem, Obj}
 use Rattle.mem_base.specs.declared.trace.Side.{Side}
@@ -44,6 +45,17 @@ is_name_byte b = is_between 48 57 b || is_between 65 90 b || is_between 97 122 b
 
 abbrev pub is_name : List ℕ → Bool
 is_name word = is_between 1 MAX_NAME (length word) && list_all is_name_byte word
+
+-- a printing ASCII character that is no blank
+abbrev pub is_file_byte : ℕ → Bool
+is_file_byte b = is_between 33 126 b
+
+abbrev pub is_file : List ℕ → Bool
+is_file word = is_between 1 MAX_FILE (length word) && list_all is_file_byte word
+
+-- the greatest number of a domain: the greatest of 32 bits
+abbrev pub max_domain : ℕ
+max_domain = 2 ^ 32 - 1
 
 abbrev pub is_letter_byte : ℕ → Bool
 is_letter_byte b = b == letter_byte Raw || b == letter_byte Mem || b == letter_byte Obj
@@ -106,8 +118,23 @@ refusal_at w = number_in 1 MAX_REFUSAL w
 abbrev pub times_at : List ℕ → Result ℕ TraceCause
 times_at w = number_in 1 MAX_PICKS w
 
+-- the line of a file
+abbrev pub line_number_at : List ℕ → Result ℕ TraceCause
+line_number_at w = number_in 0 MAX_LINE w
+
+-- how many frames a trace of a block keeps
+abbrev pub limit_at : List ℕ → Result ℕ TraceCause
+limit_at w = number_in 1 MAX_FRAME_LIMIT w
+
+-- the domain of a marked number
+abbrev pub domain_at : List ℕ → Result ℕ TraceCause
+domain_at w = number_in 1 max_domain w
+
 abbrev pub name_at : List ℕ → Result (Unit {0}) TraceCause
 name_at w = if is_name w then Ok tt else Err BadName
+
+abbrev pub file_at : List ℕ → Result (Unit {0}) TraceCause
+file_at w = if is_file w then Ok tt else Err BadName
 
 unfoldable pub letter_at : List ℕ → Result Letter TraceCause
 letter_at w =

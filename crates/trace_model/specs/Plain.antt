@@ -1,15 +1,15 @@
 -- The operations of a trace with their names written out: for each its keyword, its operands, their ranges and
 -- how it is read. A new operation is said here, and the trace that the code's values stand for follows.
-use Rattle.std.specs.Prelude.{◌≡◌, ℕ, ◌<◌, ◌≤◌, ◌^◌, ℤ, Bool, true, false, if◌then◌else◌, List, [], ◌∷◌}
-use Rattle.std.specs.Prelude.{length, map, slice_get, unwrap_or, Option, Some, None, Result, Ok, Err, codes}
-use Rattle.std.specs.Prelude.{decimal, IsTrue}
+use Rattle.std.specs.Prelude.{◌≡◌, ℕ, ◌+◌, ◌-◌, ◌<◌, ◌≤◌, ◌^◌, ℤ, Bool, true, false, not, ◌||◌, nat_le, nat_lt}
+use Rattle.std.specs.Prelude.{if◌then◌else◌, List, [], ◌∷◌, length, map, slice_get, unwrap_or, Option, Some, None}
+use Rattle.std.specs.Prelude.{Result, Ok, Err, codes, decimal, IsTrue}
 use Rattle.std.specs.List.{AllByRecursion}
 use Rattle.std.specs.Fmt.{signed_decimal}
 use Rattle.std.specs.Option.{option_map}
 use Rattle.std.specs.Str.{bytes_eq}
 use Rattle.mem_base.specs.Name.{Name}
 use Rattle.mem_base.specs.Offset.{IsOffset}
-use Rattle.mem_base.specs.declared.limits.TheConstants.{MAX_REACH, MAX_REFUSAL}
+use Rattle.mem_base.specs.declared.limits.TheConstants.{MAX_FRAME_LIMIT, MAX_FRAMES, MAX_LINE, MAX_REACH, MAX_REFUSAL}
 use Rattle.mem_base.specs.declared.texts.TextId.{TextId}
 use Rattle.mem_base.specs.declared.trace.Letter.{Letter}
 use Rattle.mem_base.specs.declared.trace.Side.{Side}
@@ -18,8 +18,11 @@ use Rattle.mem_base.specs.declared.trace.Op.TheVariants as code
 use Rattle.mem_base.specs.declared.trace.Pick.{Pick}
 use Rattle.mem_base.specs.declared.trace.Track.{Track}
 use Rattle.mem_base.specs.declared.trace.Trace.{Trace}
-use Rattle.trace_model.specs.Operands.{◌>>=◌, is_name, is_forged, letter_word, side_word, hex_word, number_at}
-use Rattle.trace_model.specs.Operands.{offset_at, count_at, refusal_at, name_at, letter_at, side_at, hex_at}
+use Rattle.trace_model.specs.Operands.{◌>>=◌, is_file, is_name, is_forged, letter_word, side_word, hex_word}
+use Rattle.trace_model.specs.Operands.{max_domain}
+use Rattle.trace_model.specs.Operands.{number_at, offset_at, count_at, refusal_at, name_at, letter_at}
+use Rattle.trace_model.specs.Operands.{side_at, hex_at}
+use Rattle.trace_model.specs.Operands.{file_at, line_number_at, limit_at, domain_at}
 use Rattle.trace_model.specs.declared.cause.TraceCause.{TraceCause}
 use Rattle.trace_model.specs.declared.cause.TraceCause.TheVariants.{UnknownWord, BadWords, ForgedLetter}
 use Rattle.trace_model.specs.declared.keyword.Keyword.{Keyword}
@@ -35,6 +38,21 @@ pub data Action : Type 0 where
   free : Letter → Name → Action
   poke : Name → ℤ → List ℕ → Action
   peek : Name → ℤ → ℕ → Action
+  -- a call: one more frame, at a line of a file
+  enter : (file : Name) → (line : ℕ) → Action
+  -- the most recent frame goes on to another line
+  go_to : (line : ℕ) → Action
+  -- a return: the most recent frame goes
+  leave : Action
+  start_tracing : (limit : ℕ) → Action
+  stop_tracing : Action
+  clear_traces : Action
+  reset_peak : Action
+  traced_memory : Action
+  mark : (domain number size : ℕ) → Action
+  unmark : (domain number : ℕ) → Action
+  -- the trace of a block
+  origin : Name → Action
   heap : Action
   refuse : Side → ℕ → Action
   other : Action
@@ -64,17 +82,17 @@ action_of texts (code.Realloc letter name size) = realloc letter (text_at texts 
 action_of texts (code.Free letter name) = free letter (text_at texts name)
 action_of texts (code.Poke name offset bytes) = poke (text_at texts name) offset bytes
 action_of texts (code.Peek name offset count) = peek (text_at texts name) offset count
-action_of texts (code.Enter file line) = other
-action_of texts (code.Line line) = other
-action_of texts code.Leave = other
-action_of texts (code.Start limit) = other
-action_of texts code.Stop = other
-action_of texts code.Clear = other
-action_of texts code.ResetPeak = other
-action_of texts code.Traced = other
-action_of texts (code.Mark domain number size) = other
-action_of texts (code.Unmark domain number) = other
-action_of texts (code.Origin name) = other
+action_of texts (code.Enter file line) = enter (text_at texts file) line
+action_of texts (code.Line line) = go_to line
+action_of texts code.Leave = leave
+action_of texts (code.Start limit) = start_tracing limit
+action_of texts code.Stop = stop_tracing
+action_of texts code.Clear = clear_traces
+action_of texts code.ResetPeak = reset_peak
+action_of texts code.Traced = traced_memory
+action_of texts (code.Mark domain number size) = mark domain number size
+action_of texts (code.Unmark domain number) = unmark domain number
+action_of texts (code.Origin name) = origin (text_at texts name)
 action_of texts (code.Snapshot name) = other
 action_of texts (code.Keep new old rules) = other
 action_of texts (code.Stats name key cumulative lines) = other
@@ -96,7 +114,7 @@ picks_of ps = map (λ p. (p.track, p.times)) ps
 abbrev pub plain : Trace → PlainTrace
 plain t = record { tracks = tracks_of t.texts t.tracks; picks = picks_of t.picks }
 
--- the operation is one that a trace may have, its name has a number below this, and its operands are in their ranges
+-- the operation is one that a trace may have, its text has a number below this, and its operands are in their ranges
 abbrev pub IsKnownAmong : ℕ → Op → Type 0
 IsKnownAmong texts code.Acquire = Unit {0}
 IsKnownAmong texts code.Release = Unit {0}
@@ -107,17 +125,17 @@ IsKnownAmong texts (code.Free letter name) = name.0 < texts
 IsKnownAmong texts (code.Poke name offset bytes) =
     (name.0 < texts) × IsOffset offset × (1 ≤ length bytes) × (length bytes ≤ MAX_REACH)
 IsKnownAmong texts (code.Peek name offset count) = (name.0 < texts) × IsOffset offset × (1 ≤ count) × (count ≤ MAX_REACH)
-IsKnownAmong texts (code.Enter file line) = ⊥
-IsKnownAmong texts (code.Line line) = ⊥
-IsKnownAmong texts code.Leave = ⊥
-IsKnownAmong texts (code.Start limit) = ⊥
-IsKnownAmong texts code.Stop = ⊥
-IsKnownAmong texts code.Clear = ⊥
-IsKnownAmong texts code.ResetPeak = ⊥
-IsKnownAmong texts code.Traced = ⊥
-IsKnownAmong texts (code.Mark domain number size) = ⊥
-IsKnownAmong texts (code.Unmark domain number) = ⊥
-IsKnownAmong texts (code.Origin name) = ⊥
+IsKnownAmong texts (code.Enter file line) = (file.0 < texts) × (line ≤ MAX_LINE)
+IsKnownAmong texts (code.Line line) = line ≤ MAX_LINE
+IsKnownAmong texts code.Leave = Unit {0}
+IsKnownAmong texts (code.Start limit) = (1 ≤ limit) × (limit ≤ MAX_FRAME_LIMIT)
+IsKnownAmong texts code.Stop = Unit {0}
+IsKnownAmong texts code.Clear = Unit {0}
+IsKnownAmong texts code.ResetPeak = Unit {0}
+IsKnownAmong texts code.Traced = Unit {0}
+IsKnownAmong texts (code.Mark domain number size) = 1 ≤ domain
+IsKnownAmong texts (code.Unmark domain number) = 1 ≤ domain
+IsKnownAmong texts (code.Origin name) = name.0 < texts
 IsKnownAmong texts (code.Snapshot name) = ⊥
 IsKnownAmong texts (code.Keep new old rules) = ⊥
 IsKnownAmong texts (code.Stats name key cumulative lines) = ⊥
@@ -138,6 +156,17 @@ keyword_text keys.Realloc = codes "realloc"
 keyword_text keys.Free = codes "free"
 keyword_text keys.Poke = codes "poke"
 keyword_text keys.Peek = codes "peek"
+keyword_text keys.Call = codes "call"
+keyword_text keys.Line = codes "line"
+keyword_text keys.Return = codes "return"
+keyword_text keys.Start = codes "start"
+keyword_text keys.Stop = codes "stop"
+keyword_text keys.Clear = codes "clear"
+keyword_text keys.ResetPeak = codes "reset_peak"
+keyword_text keys.Traced = codes "traced"
+keyword_text keys.Mark = codes "mark"
+keyword_text keys.Unmark = codes "unmark"
+keyword_text keys.Where = codes "where"
 keyword_text keys.Heap = codes "heap"
 keyword_text keys.Refuse = codes "refuse"
 
@@ -145,7 +174,8 @@ keyword_text keys.Refuse = codes "refuse"
 abbrev pub keywords : List Keyword
 keywords =
     keys.Acquire ∷ keys.Release ∷ keys.Malloc ∷ keys.Calloc ∷ keys.Realloc ∷ keys.Free ∷ keys.Poke ∷ keys.Peek
-    ∷ keys.Heap ∷ keys.Refuse ∷ []
+    ∷ keys.Call ∷ keys.Line ∷ keys.Return ∷ keys.Start ∷ keys.Stop ∷ keys.Clear ∷ keys.ResetPeak ∷ keys.Traced
+    ∷ keys.Mark ∷ keys.Unmark ∷ keys.Where ∷ keys.Heap ∷ keys.Refuse ∷ []
 
 -- the one of these keywords whose text this is
 abbrev pub keyword_among : List Keyword → List ℕ → Result Keyword TraceCause
@@ -162,6 +192,17 @@ prints_more keys.Realloc = false
 prints_more keys.Free = false
 prints_more keys.Poke = false
 prints_more keys.Peek = false
+prints_more keys.Call = false
+prints_more keys.Line = false
+prints_more keys.Return = false
+prints_more keys.Start = false
+prints_more keys.Stop = false
+prints_more keys.Clear = false
+prints_more keys.ResetPeak = false
+prints_more keys.Traced = false
+prints_more keys.Mark = false
+prints_more keys.Unmark = false
+prints_more keys.Where = true
 prints_more keys.Heap = true
 prints_more keys.Refuse = false
 
@@ -177,6 +218,17 @@ keyword_of (realloc letter name size) = Some keys.Realloc
 keyword_of (free letter name) = Some keys.Free
 keyword_of (poke name offset bytes) = Some keys.Poke
 keyword_of (peek name offset count) = Some keys.Peek
+keyword_of (enter file line) = Some keys.Call
+keyword_of (go_to line) = Some keys.Line
+keyword_of leave = Some keys.Return
+keyword_of (start_tracing limit) = Some keys.Start
+keyword_of stop_tracing = Some keys.Stop
+keyword_of clear_traces = Some keys.Clear
+keyword_of reset_peak = Some keys.ResetPeak
+keyword_of traced_memory = Some keys.Traced
+keyword_of (mark domain number size) = Some keys.Mark
+keyword_of (unmark domain number) = Some keys.Unmark
+keyword_of (origin name) = Some keys.Where
 keyword_of heap = Some keys.Heap
 keyword_of (refuse side number) = Some keys.Refuse
 keyword_of other = None
@@ -191,9 +243,45 @@ name_of (realloc letter name size) = Some name
 name_of (free letter name) = Some name
 name_of (poke name offset bytes) = Some name
 name_of (peek name offset count) = Some name
+name_of (enter file line) = None
+name_of (go_to line) = None
+name_of leave = None
+name_of (start_tracing limit) = None
+name_of stop_tracing = None
+name_of clear_traces = None
+name_of reset_peak = None
+name_of traced_memory = None
+name_of (mark domain number size) = None
+name_of (unmark domain number) = None
+name_of (origin name) = Some name
 name_of heap = None
 name_of (refuse side number) = None
 name_of other = None
+
+-- the text that it says: the name of the block that it works on, or the file of a call
+abbrev pub text_of : Action → Option Name
+text_of acquire = None
+text_of release = None
+text_of (malloc letter name size) = Some name
+text_of (calloc letter name count size) = Some name
+text_of (realloc letter name size) = Some name
+text_of (free letter name) = Some name
+text_of (poke name offset bytes) = Some name
+text_of (peek name offset count) = Some name
+text_of (enter file line) = Some file
+text_of (go_to line) = None
+text_of leave = None
+text_of (start_tracing limit) = None
+text_of stop_tracing = None
+text_of clear_traces = None
+text_of reset_peak = None
+text_of traced_memory = None
+text_of (mark domain number size) = None
+text_of (unmark domain number) = None
+text_of (origin name) = Some name
+text_of heap = None
+text_of (refuse side number) = None
+text_of other = None
 
 -- whether it prints more than a reply
 abbrev pub is_report : Action → Bool
@@ -209,6 +297,17 @@ operands_of (realloc letter name size) = letter_word letter ∷ name ∷ decimal
 operands_of (free letter name) = letter_word letter ∷ name ∷ []
 operands_of (poke name offset bytes) = name ∷ signed_decimal offset ∷ hex_word bytes ∷ []
 operands_of (peek name offset count) = name ∷ signed_decimal offset ∷ decimal count ∷ []
+operands_of (enter file line) = file ∷ decimal line ∷ []
+operands_of (go_to line) = decimal line ∷ []
+operands_of leave = []
+operands_of (start_tracing limit) = decimal limit ∷ []
+operands_of stop_tracing = []
+operands_of clear_traces = []
+operands_of reset_peak = []
+operands_of traced_memory = []
+operands_of (mark domain number size) = decimal domain ∷ decimal number ∷ decimal size ∷ []
+operands_of (unmark domain number) = decimal domain ∷ decimal number ∷ []
+operands_of (origin name) = name ∷ []
 operands_of heap = []
 operands_of (refuse side number) = side_word side ∷ decimal number ∷ []
 operands_of other = []
@@ -222,6 +321,10 @@ pub record FitsPoke (name : Name) (offset : ℤ) (bytes : List ℕ) : Type 0 whe
   pub few : length bytes ≤ MAX_REACH
   pub honest : is_forged offset bytes ≡ false
 
+-- the number of a domain of marked numbers; 0 is that of blocks
+abbrev pub IsDomain : ℕ → Type 0
+IsDomain n = (1 ≤ n) × (n ≤ max_domain)
+
 -- its operands have a spelling and are in their ranges
 abbrev pub Fits : Action → Type 0
 Fits acquire = Unit {0}
@@ -232,9 +335,94 @@ Fits (realloc letter name size) = IsTrue (is_name name) × (size < 2 ^ 64)
 Fits (free letter name) = IsTrue (is_name name)
 Fits (poke name offset bytes) = FitsPoke name offset bytes
 Fits (peek name offset count) = IsTrue (is_name name) × IsOffset offset × (1 ≤ count) × (count ≤ MAX_REACH)
+Fits (enter file line) = IsTrue (is_file file) × (line ≤ MAX_LINE)
+Fits (go_to line) = line ≤ MAX_LINE
+Fits leave = Unit {0}
+Fits (start_tracing limit) = (1 ≤ limit) × (limit ≤ MAX_FRAME_LIMIT)
+Fits stop_tracing = Unit {0}
+Fits clear_traces = Unit {0}
+Fits reset_peak = Unit {0}
+Fits traced_memory = Unit {0}
+Fits (mark domain number size) = IsDomain domain × (number < 2 ^ 64) × (size < 2 ^ 64)
+Fits (unmark domain number) = IsDomain domain × (number < 2 ^ 64)
+Fits (origin name) = IsTrue (is_name name)
 Fits heap = Unit {0}
 Fits (refuse side number) = (1 ≤ number) × (number ≤ MAX_REFUSAL)
 Fits other = ⊥
+
+-- ---- the frames of a track, as its calls and returns leave them
+
+-- it speaks of the most recent frame, so there must be one
+abbrev pub needs_frame : Action → Bool
+needs_frame acquire = false
+needs_frame release = false
+needs_frame (malloc letter name size) = false
+needs_frame (calloc letter name count size) = false
+needs_frame (realloc letter name size) = false
+needs_frame (free letter name) = false
+needs_frame (poke name offset bytes) = false
+needs_frame (peek name offset count) = false
+needs_frame (enter file line) = false
+needs_frame (go_to line) = true
+needs_frame leave = true
+needs_frame (start_tracing limit) = false
+needs_frame stop_tracing = false
+needs_frame clear_traces = false
+needs_frame reset_peak = false
+needs_frame traced_memory = false
+needs_frame (mark domain number size) = false
+needs_frame (unmark domain number) = false
+needs_frame (origin name) = false
+needs_frame heap = false
+needs_frame (refuse side number) = false
+needs_frame other = false
+
+-- how many frames a track has after it, of so many before
+abbrev pub depth_after : ℕ → Action → ℕ
+depth_after n acquire = n
+depth_after n release = n
+depth_after n (malloc letter name size) = n
+depth_after n (calloc letter name count size) = n
+depth_after n (realloc letter name size) = n
+depth_after n (free letter name) = n
+depth_after n (poke name offset bytes) = n
+depth_after n (peek name offset count) = n
+depth_after n (enter file line) = n + 1
+depth_after n (go_to line) = n
+depth_after n leave = n - 1
+depth_after n (start_tracing limit) = n
+depth_after n stop_tracing = n
+depth_after n clear_traces = n
+depth_after n reset_peak = n
+depth_after n traced_memory = n
+depth_after n (mark domain number size) = n
+depth_after n (unmark domain number) = n
+depth_after n (origin name) = n
+depth_after n heap = n
+depth_after n (refuse side number) = n
+depth_after n other = n
+
+-- how many frames these operations leave, of so many before
+abbrev pub depth_from : ℕ → List Action → ℕ
+depth_from n [] = n
+depth_from n (a ∷ actions) = depth_from (depth_after n a) actions
+
+-- how many frames a track has after its operations
+abbrev pub depth : List Action → ℕ
+depth actions = depth_from 0 actions
+
+-- where so many frames are, there is the one that it speaks of
+abbrev pub has_frame : ℕ → Action → Bool
+has_frame n a = not (needs_frame a) || nat_lt 0 n
+
+-- where so many frames are, it leaves no more than a track may have
+abbrev pub keeps_few : ℕ → Action → Bool
+keeps_few n a = nat_le (depth_after n a) MAX_FRAMES
+
+-- each of these operations has the frame that it speaks of and leaves no more than a track may have, of so many before
+abbrev pub KeepFrames : ℕ → List Action → Type 0
+KeepFrames n [] = Unit {0}
+KeepFrames n (a ∷ actions) = IsTrue (has_frame n a) × IsTrue (keeps_few n a) × KeepFrames (depth_after n a) actions
 
 -- ---- reading an operation: the operands from left to right, and the forged letter last
 
@@ -284,6 +472,34 @@ peek_at name offset count = do
   n ← count_at count
   Ok (peek name o n)
 
+unfoldable pub enter_at : List ℕ → List ℕ → Result Action TraceCause
+enter_at file line = do
+  u ← file_at file
+  n ← line_number_at line
+  Ok (enter file n)
+
+unfoldable pub go_to_at : List ℕ → Result Action TraceCause
+go_to_at line = line_number_at line >>= λ n. Ok (go_to n)
+
+unfoldable pub start_tracing_at : List ℕ → Result Action TraceCause
+start_tracing_at limit = limit_at limit >>= λ n. Ok (start_tracing n)
+
+unfoldable pub mark_at : List ℕ → List ℕ → List ℕ → Result Action TraceCause
+mark_at domain number size = do
+  d ← domain_at domain
+  k ← number_at number
+  n ← number_at size
+  Ok (mark d k n)
+
+unfoldable pub unmark_at : List ℕ → List ℕ → Result Action TraceCause
+unmark_at domain number = do
+  d ← domain_at domain
+  k ← number_at number
+  Ok (unmark d k)
+
+unfoldable pub origin_at : List ℕ → Result Action TraceCause
+origin_at name = name_at name >>= λ u. Ok (origin name)
+
 unfoldable pub refuse_at : List ℕ → List ℕ → Result Action TraceCause
 refuse_at side number = do
   s ← side_at side
@@ -308,6 +524,28 @@ action_at keys.Poke (name ∷ offset ∷ digits ∷ []) = poke_at name offset di
 action_at keys.Poke ws = Err BadWords
 action_at keys.Peek (name ∷ offset ∷ count ∷ []) = peek_at name offset count
 action_at keys.Peek ws = Err BadWords
+action_at keys.Call (file ∷ line ∷ []) = enter_at file line
+action_at keys.Call ws = Err BadWords
+action_at keys.Line (line ∷ []) = go_to_at line
+action_at keys.Line ws = Err BadWords
+action_at keys.Return [] = Ok leave
+action_at keys.Return ws = Err BadWords
+action_at keys.Start (limit ∷ []) = start_tracing_at limit
+action_at keys.Start ws = Err BadWords
+action_at keys.Stop [] = Ok stop_tracing
+action_at keys.Stop ws = Err BadWords
+action_at keys.Clear [] = Ok clear_traces
+action_at keys.Clear ws = Err BadWords
+action_at keys.ResetPeak [] = Ok reset_peak
+action_at keys.ResetPeak ws = Err BadWords
+action_at keys.Traced [] = Ok traced_memory
+action_at keys.Traced ws = Err BadWords
+action_at keys.Mark (domain ∷ number ∷ size ∷ []) = mark_at domain number size
+action_at keys.Mark ws = Err BadWords
+action_at keys.Unmark (domain ∷ number ∷ []) = unmark_at domain number
+action_at keys.Unmark ws = Err BadWords
+action_at keys.Where (name ∷ []) = origin_at name
+action_at keys.Where ws = Err BadWords
 action_at keys.Heap [] = Ok heap
 action_at keys.Heap ws = Err BadWords
 action_at keys.Refuse (side ∷ number ∷ []) = refuse_at side number

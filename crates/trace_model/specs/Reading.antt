@@ -7,11 +7,12 @@ use Rattle.mem_base.specs.Name.{Name}
 use Rattle.mem_base.specs.declared.limits.TheConstants.{MAX_OPS, MAX_PICKS, MAX_REPORTS, MAX_TRACKS}
 use Rattle.trace_model.specs.Operands.{◌>>=◌, is_between, name_at, times_at}
 use Rattle.trace_model.specs.Plain.{Action, PlainTrack, PlainTrace, keywords, keyword_among, is_report, action_at}
+use Rattle.trace_model.specs.Plain.{depth, has_frame, keeps_few}
 use Rattle.trace_model.specs.Spelling.{blank, line_end, head_text, action_count, report_count, pick_count, header}
 use Rattle.trace_model.specs.declared.cause.TraceCause.{TraceCause}
 use Rattle.trace_model.specs.declared.cause.TraceCause.TheVariants.{BadEnd, BadHeader, BadByte, UnknownWord}
-use Rattle.trace_model.specs.declared.cause.TraceCause.TheVariants.{Misplaced, BadWords, SameTrack, NoTrack}
-use Rattle.trace_model.specs.declared.cause.TraceCause.TheVariants.{TooMany}
+use Rattle.trace_model.specs.declared.cause.TraceCause.TheVariants.{Misplaced, BadWords, NoFrame, SameTrack}
+use Rattle.trace_model.specs.declared.cause.TraceCause.TheVariants.{NoTrack, TooMany}
 use Rattle.trace_model.specs.declared.keyword.Head.{Head}
 use Rattle.trace_model.specs.declared.keyword.Head.TheVariants as heads
 
@@ -23,6 +24,11 @@ head_at w =
     if bytes_eq w (head_text heads.Track) then Ok heads.Track
     else if bytes_eq w (head_text heads.Pick) then Ok heads.Pick
     else keyword_among keywords w >>= λ k. Ok (heads.Op k)
+
+-- the one of these heads whose word this is
+abbrev pub head_among : List Head → List ℕ → Result Head TraceCause
+head_among [] w = Err UnknownWord
+head_among (h ∷ hs) w = if bytes_eq w (head_text h) then Ok h else head_among hs w
 
 -- an operation in front of the first track or behind a pick, or a track behind a pick
 abbrev pub is_misplaced : PlainTrace → Head → Bool
@@ -56,13 +62,22 @@ with_action [] a = []
 with_action (t ∷ []) a = record { name = t.name; actions = t.actions ++ a ∷ [] } ∷ []
 with_action (t ∷ u ∷ ts) a = t ∷ with_action (u ∷ ts) a
 
+-- how many frames the last track has after its operations
+abbrev pub open_frames : List PlainTrack → ℕ
+open_frames [] = 0
+open_frames (t ∷ []) = depth t.actions
+open_frames (t ∷ u ∷ ts) = open_frames (u ∷ ts)
+
 -- there is room for one more operation, and for one that prints more than a reply where this is one
 abbrev pub has_room : PlainTrace → Action → Bool
 has_room t a = nat_lt (action_count t.tracks) MAX_OPS && (not (is_report a) || nat_lt (report_count t.tracks) MAX_REPORTS)
 
--- the trace with one more operation of its last track
+-- the trace with one more operation of its last track, where the frame that it speaks of is there, and then room
 abbrev pub add : PlainTrace → Action → Result PlainTrace TraceCause
-add t a = if has_room t a then Ok (record t { tracks = with_action t.tracks a }) else Err TooMany
+add t a =
+    if not (has_frame (open_frames t.tracks) a) then Err NoFrame
+    else if has_room t a && keeps_few (open_frames t.tracks) a then Ok (record t { tracks = with_action t.tracks a })
+    else Err TooMany
 
 -- the index of the track of a name
 abbrev pub index_of : List PlainTrack → Name → Result ℕ TraceCause

@@ -6,7 +6,8 @@ use Rattle.mem_base.specs.Name.{Name}
 use Rattle.mem_base.specs.Texts.{IsDistinct}
 use Rattle.mem_base.specs.declared.limits.TheConstants.{MAX_OPS, MAX_PICKS, MAX_REPORTS, MAX_TRACKS}
 use Rattle.trace_model.specs.Operands.{is_name}
-use Rattle.trace_model.specs.Plain.{Action, PlainTrack, PlainTrace, keyword_text, keyword_of, operands_of, is_report, Fits}
+use Rattle.trace_model.specs.Plain.{Action, PlainTrack, PlainTrace, keyword_text, keyword_of, operands_of, is_report}
+use Rattle.trace_model.specs.Plain.{Fits, KeepFrames}
 use Rattle.trace_model.specs.declared.keyword.Keyword.{Keyword}
 use Rattle.trace_model.specs.declared.keyword.Head.{Head}
 use Rattle.trace_model.specs.declared.keyword.Head.TheVariants as heads
@@ -81,6 +82,7 @@ spelling t = with_end header ++ body t
 pub record FitsTrack (t : PlainTrack) : Type 0 where
   pub name : IsTrue (is_name t.name)
   pub actions : AllByRecursion Fits t.actions
+  pub frames : KeepFrames 0 t.actions
 
 -- how many operations there are over all tracks
 abbrev pub action_count : List PlainTrack → ℕ

@@ -1,19 +1,19 @@
--- The texts that a trace's table has: the names that its lines say, each once.
+-- The texts that a trace's table has: the names and files that its lines say, each once.
 use Rattle.std.specs.Prelude.{not, List, [], ◌∷◌, Option, Some, None}
 use Rattle.std.specs.List.{filter, flat_map}
 use Rattle.std.specs.Option.{option_to_list}
 use Rattle.std.specs.Str.{bytes_eq}
 use Rattle.mem_base.specs.Name.{Name}
 use Rattle.mem_base.specs.Texts.{unknown, with_text}
-use Rattle.trace_model.specs.Plain.{Action, PlainTrack, name_of}
+use Rattle.trace_model.specs.Plain.{Action, PlainTrack, text_of}
 
--- the names of the blocks that operations work on, in order
-abbrev pub blocks_in : List Action → List Name
-blocks_in actions = flat_map (λ a. option_to_list (name_of a)) actions
+-- the texts that operations say, in order: names of blocks, and files
+abbrev pub texts_in : List Action → List Name
+texts_in actions = flat_map (λ a. option_to_list (text_of a)) actions
 
--- the names that lines say, from the first on: of a track, and then of the blocks that its operations work on
+-- the texts that lines say, from the first on: the name of a track, and then those of its operations
 abbrev pub names_in : List PlainTrack → List Name
-names_in tracks = flat_map (λ t. t.name ∷ blocks_in t.actions) tracks
+names_in tracks = flat_map (λ t. t.name ∷ texts_in t.actions) tracks
 
 -- the texts of a list, each where it first comes
 abbrev pub firsts : List Name → List Name
@@ -24,7 +24,7 @@ firsts (x ∷ xs) = x ∷ filter (λ y. not (bytes_eq x y)) (firsts xs)
 abbrev pub table_of : List PlainTrack → List Name
 table_of tracks = firsts (unknown ∷ names_in tracks)
 
--- a table after the name of a block, where there is one, is sought or added
-abbrev pub with_block : List Name → Option Name → List Name
-with_block texts None = texts
-with_block texts (Some name) = with_text texts name
+-- a table after a text, where there is one, is sought or added
+abbrev pub with_text_of : List Name → Option Name → List Name
+with_text_of texts None = texts
+with_text_of texts (Some name) = with_text texts name

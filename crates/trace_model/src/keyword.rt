@@ -1,12 +1,14 @@
 //! What a line begins with, a track, a pick or an operation, and what is said of each operation once: its
-//! keyword, and the name of the block that it works on. A keyword is spelt in one table,
-//! [`Keyword::word`], which reading, spelling and reports use. An operation that no trace may have yet
-//! has no keyword.
-ghost use Rattle.std.specs.Prelude.{◌≡◌, ◌<◌, ℕ, List, IfSome};
+//! keyword, the name of the block that it works on, and what it does to the frames of its track. A keyword
+//! is spelt in one table, [`Keyword::word`], which reading, spelling and reports use; [`Head::with_letter`]
+//! has the heads by their first letters. An operation that no trace may have yet has no keyword.
+ghost use Rattle.std.specs.Prelude.{◌≡◌, ◌<◌, ◌≤◌, ◌∷◌, ℕ, List, IfSome};
 ghost use Rattle.std.specs.Option.{option_map};
 ghost use Rattle.mem_base.specs.Name.{Name};
-ghost use Rattle.trace_model.specs.Plain.{action_of, keyword_of, keyword_text, keywords, name_of};
-ghost use Rattle.trace_model.specs.Plain.{prints_more, text_at, IsKnownAmong};
+ghost use Rattle.mem_base.specs.declared.limits.TheConstants.{MAX_FRAMES};
+ghost use Rattle.trace_model.specs.Plain.{action_of, keyword_of, keyword_text, name_of, prints_more, text_at};
+ghost use Rattle.trace_model.specs.Plain.{text_of, needs_frame, depth_after, IsKnownAmong};
+ghost use Rattle.trace_model.specs.Reading.{head_among, head_at};
 ghost use Rattle.trace_model.specs.Spelling.{head_text};
 
 use mem_base::{Op, TextId};
@@ -22,6 +24,17 @@ pub enum Keyword {
     Free,
     Poke,
     Peek,
+    Call,
+    Line,
+    Return,
+    Start,
+    Stop,
+    Clear,
+    ResetPeak,
+    Traced,
+    Mark,
+    Unmark,
+    Where,
     Heap,
     Refuse,
 }
@@ -36,24 +49,6 @@ pub enum Head {
 }
 
 impl Keyword {
-    /// All keywords.
-    pub fn all() -> [Keyword; 10]
-        ensures { result ≡ keywords }
-    {
-        [
-            Keyword::Acquire,
-            Keyword::Release,
-            Keyword::Malloc,
-            Keyword::Calloc,
-            Keyword::Realloc,
-            Keyword::Free,
-            Keyword::Poke,
-            Keyword::Peek,
-            Keyword::Heap,
-            Keyword::Refuse,
-        ]
-    }
-
     /// The word as traces and reports spell it.
     pub fn word(self) -> &'static str
         ensures { result.now ≡ keyword_text self }
@@ -67,6 +62,17 @@ impl Keyword {
             Keyword::Free => "free",
             Keyword::Poke => "poke",
             Keyword::Peek => "peek",
+            Keyword::Call => "call",
+            Keyword::Line => "line",
+            Keyword::Return => "return",
+            Keyword::Start => "start",
+            Keyword::Stop => "stop",
+            Keyword::Clear => "clear",
+            Keyword::ResetPeak => "reset_peak",
+            Keyword::Traced => "traced",
+            Keyword::Mark => "mark",
+            Keyword::Unmark => "unmark",
+            Keyword::Where => "where",
             Keyword::Heap => "heap",
             Keyword::Refuse => "refuse",
         }
@@ -78,7 +84,7 @@ impl Keyword {
         ensures { result ≡ prints_more self }
     {
         match self {
-            Keyword::Heap => true,
+            Keyword::Heap | Keyword::Where => true,
             Keyword::Acquire
             | Keyword::Release
             | Keyword::Malloc
@@ -87,6 +93,16 @@ impl Keyword {
             | Keyword::Free
             | Keyword::Poke
             | Keyword::Peek
+            | Keyword::Call
+            | Keyword::Line
+            | Keyword::Return
+            | Keyword::Start
+            | Keyword::Stop
+            | Keyword::Clear
+            | Keyword::ResetPeak
+            | Keyword::Traced
+            | Keyword::Mark
+            | Keyword::Unmark
             | Keyword::Refuse => false,
         }
     }
@@ -104,20 +120,20 @@ impl Keyword {
             Op::Free(_, _) => Some(Keyword::Free),
             Op::Poke(_, _, _) => Some(Keyword::Poke),
             Op::Peek(_, _, _) => Some(Keyword::Peek),
+            Op::Enter(_, _) => Some(Keyword::Call),
+            Op::Line(_) => Some(Keyword::Line),
+            Op::Leave => Some(Keyword::Return),
+            Op::Start(_) => Some(Keyword::Start),
+            Op::Stop => Some(Keyword::Stop),
+            Op::Clear => Some(Keyword::Clear),
+            Op::ResetPeak => Some(Keyword::ResetPeak),
+            Op::Traced => Some(Keyword::Traced),
+            Op::Mark(_, _, _) => Some(Keyword::Mark),
+            Op::Unmark(_, _) => Some(Keyword::Unmark),
+            Op::Origin(_) => Some(Keyword::Where),
             Op::Heap => Some(Keyword::Heap),
             Op::Refuse(_, _) => Some(Keyword::Refuse),
-            Op::Enter(_, _)
-            | Op::Line(_)
-            | Op::Leave
-            | Op::Start(_)
-            | Op::Stop
-            | Op::Clear
-            | Op::ResetPeak
-            | Op::Traced
-            | Op::Mark(_, _, _)
-            | Op::Unmark(_, _)
-            | Op::Origin(_)
-            | Op::Snapshot(_)
+            Op::Snapshot(_)
             | Op::Keep(_, _, _)
             | Op::Stats(_, _, _, _)
             | Op::Compare(_, _, _, _, _)
@@ -127,6 +143,38 @@ impl Keyword {
 }
 
 impl Head {
+    /// The heads whose words begin with this letter: the table that a line's first word is sought in. So a
+    /// word is compared with five others at most.
+    pub fn with_letter(letter: u8) -> &'static [Head]
+        ensures { (rest : List ℕ) → head_among result.now (letter ∷ rest) ≡ head_at (letter ∷ rest) }
+    {
+        match letter {
+            b'a' => &[Head::Op(Keyword::Acquire)],
+            b'c' => &[
+                Head::Op(Keyword::Calloc),
+                Head::Op(Keyword::Call),
+                Head::Op(Keyword::Clear),
+            ],
+            b'f' => &[Head::Op(Keyword::Free)],
+            b'h' => &[Head::Op(Keyword::Heap)],
+            b'l' => &[Head::Op(Keyword::Line)],
+            b'm' => &[Head::Op(Keyword::Malloc), Head::Op(Keyword::Mark)],
+            b'p' => &[Head::Pick, Head::Op(Keyword::Poke), Head::Op(Keyword::Peek)],
+            b'r' => &[
+                Head::Op(Keyword::Release),
+                Head::Op(Keyword::Realloc),
+                Head::Op(Keyword::Return),
+                Head::Op(Keyword::ResetPeak),
+                Head::Op(Keyword::Refuse),
+            ],
+            b's' => &[Head::Op(Keyword::Start), Head::Op(Keyword::Stop)],
+            b't' => &[Head::Track, Head::Op(Keyword::Traced)],
+            b'u' => &[Head::Op(Keyword::Unmark)],
+            b'w' => &[Head::Op(Keyword::Where)],
+            _ => &[],
+        }
+    }
+
     /// The first word of a line that begins this.
     pub fn word(self) -> &'static str
         ensures { result.now ≡ head_text self }
@@ -151,7 +199,8 @@ pub fn name_of(op: &Op) -> Option<TextId>
         | Op::Realloc(_, name, _)
         | Op::Free(_, name)
         | Op::Poke(name, _, _)
-        | Op::Peek(name, _, _) => Some(*name),
+        | Op::Peek(name, _, _)
+        | Op::Origin(name) => Some(*name),
         Op::Acquire
         | Op::Release
         | Op::Heap
@@ -166,11 +215,115 @@ pub fn name_of(op: &Op) -> Option<TextId>
         | Op::Traced
         | Op::Mark(_, _, _)
         | Op::Unmark(_, _)
-        | Op::Origin(_)
         | Op::Snapshot(_)
         | Op::Keep(_, _, _)
         | Op::Stats(_, _, _, _)
         | Op::Compare(_, _, _, _, _)
         | Op::Dump(_) => None,
+    }
+}
+
+/// The number of the text that an operation says, where it says one: the name of the block that it works
+/// on, or the file of a call.
+pub fn text_of(op: &Op) -> Option<TextId>
+    ensures text { (texts : List Name)
+        → option_map (text_at texts) result ≡ text_of (action_of texts op.now) }
+    ensures known { (texts : ℕ) → IsKnownAmong texts op.now → IfSome result (λ id. id.0 < texts) }
+{
+    match op {
+        Op::Malloc(_, name, _)
+        | Op::Calloc(_, name, _, _)
+        | Op::Realloc(_, name, _)
+        | Op::Free(_, name)
+        | Op::Poke(name, _, _)
+        | Op::Peek(name, _, _)
+        | Op::Origin(name)
+        | Op::Enter(name, _) => Some(*name),
+        Op::Acquire
+        | Op::Release
+        | Op::Heap
+        | Op::Refuse(_, _)
+        | Op::Line(_)
+        | Op::Leave
+        | Op::Start(_)
+        | Op::Stop
+        | Op::Clear
+        | Op::ResetPeak
+        | Op::Traced
+        | Op::Mark(_, _, _)
+        | Op::Unmark(_, _)
+        | Op::Snapshot(_)
+        | Op::Keep(_, _, _)
+        | Op::Stats(_, _, _, _)
+        | Op::Compare(_, _, _, _, _)
+        | Op::Dump(_) => None,
+    }
+}
+
+/// Whether an operation speaks of the most recent frame of its track, so that there must be one.
+pub fn needs_frame(op: &Op) -> bool
+    ensures { (texts : List Name) → result ≡ needs_frame (action_of texts op.now) }
+{
+    match op {
+        Op::Line(_) | Op::Leave => true,
+        Op::Acquire
+        | Op::Release
+        | Op::Malloc(_, _, _)
+        | Op::Calloc(_, _, _, _)
+        | Op::Realloc(_, _, _)
+        | Op::Free(_, _)
+        | Op::Poke(_, _, _)
+        | Op::Peek(_, _, _)
+        | Op::Enter(_, _)
+        | Op::Start(_)
+        | Op::Stop
+        | Op::Clear
+        | Op::ResetPeak
+        | Op::Traced
+        | Op::Mark(_, _, _)
+        | Op::Unmark(_, _)
+        | Op::Origin(_)
+        | Op::Snapshot(_)
+        | Op::Keep(_, _, _)
+        | Op::Stats(_, _, _, _)
+        | Op::Compare(_, _, _, _, _)
+        | Op::Dump(_)
+        | Op::Heap
+        | Op::Refuse(_, _) => false,
+    }
+}
+
+/// How many frames a track has after an operation, of so many before.
+pub fn depth_after(depth: u32, op: &Op) -> u32
+    requires { depth ≤ MAX_FRAMES }
+    ensures { (texts : List Name) → result ≡ depth_after depth (action_of texts op.now) }
+{
+    match op {
+        Op::Enter(_, _) => depth + 1,
+        Op::Leave => depth.saturating_sub(1),
+        Op::Line(_)
+        | Op::Acquire
+        | Op::Release
+        | Op::Malloc(_, _, _)
+        | Op::Calloc(_, _, _, _)
+        | Op::Realloc(_, _, _)
+        | Op::Free(_, _)
+        | Op::Poke(_, _, _)
+        | Op::Peek(_, _, _)
+        | Op::Start(_)
+        | Op::Stop
+        | Op::Clear
+        | Op::ResetPeak
+        | Op::Traced
+        | Op::Mark(_, _, _)
+        | Op::Unmark(_, _)
+        | Op::Origin(_)
+        | Op::Snapshot(_)
+        | Op::Keep(_, _, _)
+        | Op::Stats(_, _, _, _)
+        | Op::Compare(_, _, _, _, _)
+        | Op::Dump(_)
+        | Op::Heap
+        | Op::Refuse(_, _) => depth,
     }
 }

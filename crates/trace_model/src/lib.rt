@@ -19,7 +19,15 @@
 //! | `free D NAME` | domain, block |
 //! | `poke NAME OFF HEX` | block, offset from -8 on, 1 to 1024 bytes |
 //! | `peek NAME OFF NUM` | block, offset from -8 on, 1 to 1024 |
-//! | `heap` | none; at most 1,024 of them |
+//! | `call FILE NUM` | file, 1 to 255 printing bytes, and line, at most 2,147,483,647; at most 256 frames a track |
+//! | `line NUM` | the line that the most recent frame goes on to |
+//! | `return` | none; the most recent frame goes |
+//! | `start NUM` | how many frames a trace of a block keeps, 1 to 65,535 |
+//! | `stop`, `clear`, `reset_peak`, `traced` | none |
+//! | `mark NUM NUM NUM` | domain, from 1 to 4,294,967,295, number, size |
+//! | `unmark NUM NUM` | domain, number |
+//! | `where NAME` | block |
+//! | `heap` | none; with `where`, at most 1,024 of them |
 //! | `refuse SIDE NUM` | `arena` or `raw`, and which request of that source is refused, 1 (the next one) to 1,000,000 |
 #![tactic(auto)]
 
@@ -28,5 +36,5 @@ mod keyword;
 mod laws;
 
 pub use cause::TraceCause;
-pub use keyword::{Head, Keyword, name_of};
+pub use keyword::{Head, Keyword, depth_after, name_of, needs_frame, text_of};
 pub use laws::{read_where_spelt, spelt_once};

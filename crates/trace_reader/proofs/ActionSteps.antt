@@ -1,26 +1,32 @@
 -- An operation that was read is added to the trace.
-use Rattle.std.proofs.Common.{◌≡◌, ℕ, ◌+◌, ◌<◌, Bool, true, false, cond, not, ◌&&◌, ◌||◌, List, [], ◌∷◌, ◌++◌, length, Ok, Err, refl, sym, ap, subst, ◌∙◌, arith, true≢false}
-use Rattle.std.specs.Prelude.{◌==◌, nat_lt}
+use Rattle.std.proofs.Common.{◌≡◌, ℕ, ◌+◌, ◌<◌, Bool, true, false, cond, not, ◌&&◌, ◌||◌, List, [], ◌∷◌, ◌++◌}
+use Rattle.std.proofs.Common.{length, Result, Ok, Err, refl, sym, ap, subst, ◌∙◌, arith, true≢false}
+use Rattle.std.specs.Prelude.{◌==◌, nat_le, nat_lt}
 use Rattle.std.specs.List.{AllByRecursion}
-use Rattle.std.proofs.lemmas.Bool.{ltb-true}
+use Rattle.std.proofs.lemmas.Bool.{leb-true, ltb-true}
 use Rattle.std.proofs.lemmas.List.{map-append, length-map}
-use Rattle.mem_base.specs.declared.limits.TheConstants.{MAX_OPS, MAX_REPORTS}
+use Rattle.mem_base.specs.declared.limits.TheConstants.{MAX_FRAMES, MAX_OPS, MAX_REPORTS}
 use Rattle.mem_base.specs.declared.trace.Op.{Op}
 use Rattle.mem_base.specs.declared.trace.Track.{Track}
 use Rattle.mem_base.specs.Name.{Name}
 use Rattle.trace_model.specs.Operands.{◌>>=◌}
-use Rattle.trace_model.specs.Plain.{PlainTrack, PlainTrace, plain, text_at, track_of, tracks_of, action_of, action_at, name_of}
+use Rattle.trace_model.specs.Plain.{Action, PlainTrack, PlainTrace, plain, text_at, track_of, tracks_of}
+use Rattle.trace_model.specs.Plain.{action_of, action_at}
+use Rattle.trace_model.specs.Plain.{depth_after, has_frame, is_report, keeps_few, text_of}
 use Rattle.trace_model.specs.Spelling.{action_count, report_count}
 use Rattle.trace_model.specs.Known.{IsKnownOp}
-use Rattle.trace_model.specs.Table.{table_of, with_block}
-use Rattle.trace_model.specs.Reading.{item_at, is_misplaced, add, has_room, with_action}
-use Rattle.trace_model.specs.declared.cause.TraceCause.TheVariants.{TooMany}
+use Rattle.trace_model.specs.Table.{table_of, with_text_of}
+use Rattle.trace_model.specs.Reading.{item_at, is_misplaced, add, has_room, open_frames, with_action}
+use Rattle.trace_model.specs.declared.cause.TraceCause.{TraceCause}
+use Rattle.trace_model.specs.declared.cause.TraceCause.TheVariants.{NoFrame, TooMany}
 use Rattle.trace_model.specs.declared.keyword.Keyword.{Keyword}
 use Rattle.trace_model.specs.declared.keyword.Head.TheVariants as heads
-use Rattle.trace_model.proofs.CallerLemmas.{both, all_push, suc_not_zero, action_count-with, report_count-with, table_with_action}
-use Rattle.trace_reader.specs.Progress.{AddsBlock, Extends, IsKnownTrack, IsKnownSoFar, is_report_op, has_place, counts_with, with_op}
+use Rattle.trace_model.proofs.CallerLemmas.{both, test_fails, test_holds, open_with, all_push, suc_not_zero}
+use Rattle.trace_model.proofs.CallerLemmas.{action_count-with, report_count-with, table_with_action}
+use Rattle.trace_reader.specs.Progress.{AddsText, Extends, IsKnownTrack, IsKnownSoFar, bare, has_place}
+use Rattle.trace_reader.specs.Progress.{place_for, counts_with, with_op}
 use Rattle.trace_reader.specs.declared.progress.Progress.{Progress}
-use Rattle.trace_reader.proofs.Growth.{tracks_stay, tracks_still_known, few_more, report_is}
+use Rattle.trace_reader.proofs.Growth.{tracks_stay, tracks_still_known, few_more, report_is, need_is, depth_is}
 
 -- ---- the tracks with one more operation
 
@@ -54,6 +60,16 @@ some_begun p k placed = by p.trace.tracks placed
 
 -- ---- what the line comes to
 
+-- whether an operation may come, by whether its frame is there and whether there is room
+abbrev verdict : Bool → Bool → Result (Unit {0}) TraceCause
+verdict framed room = cond (not framed) (Err NoFrame) (cond room (Ok tt) (Err TooMany))
+
+-- what is done where it may come
+verdict_is : (framed room : Bool) (t : PlainTrace) → cond (not framed) (Err NoFrame) (cond room (Ok t) (Err TooMany)) ≡ (verdict framed room >>= λ _. Ok t)
+verdict_is true true t = refl
+verdict_is true false t = refl
+verdict_is false room t = refl
+
 report_counts : (report : Bool) (n : ℕ) → cond report (n + 1) n ≡ n + cond report 1 0
 report_counts true n = refl
 report_counts false n = omega arith
@@ -62,36 +78,59 @@ module _ (p : Progress) (news : List Name) (op : Op) (known : IsKnownSoFar p) (g
   abbrev t : PlainTrace
   t = plain p.trace
 
-  -- whether there is room is told by the counts
-  room_is : has_room t (action_of news op) ≡ has_place p.counts op
-  room_is = λ i. nat_lt (sym known.counts.ops i) MAX_OPS && (not (report_is news op i) || nat_lt (sym known.counts.reports i) MAX_REPORTS)
+  abbrev a : Action
+  a = action_of news op
 
-  -- there was no room
-  pub refused : (k : Keyword) (ws : List (List ℕ)) → action_at k ws ≡ Ok (action_of news op) → has_place p.counts op ≡ false → item_at t (heads.Op k) ws ≡ Err TooMany
-  refused k ws read none =
-      ap (λ s. s >>= λ a. add t a) read
-      ∙ ap (λ (b : Bool). cond b (Ok (record t { tracks = with_action t.tracks (action_of news op) })) (Err TooMany)) (room_is ∙ none)
+  -- the trace with the operation
+  abbrev longer : PlainTrace
+  longer = record t { tracks = with_action t.tracks a }
+
+  -- whether it has the frame that it speaks of, and whether there is room, is told by the counts
+  frame_is : has_frame (open_frames t.tracks) a ≡ has_frame p.counts.frames (bare op)
+  frame_is = λ i. not (need_is news op i) || nat_lt 0 (sym known.counts.frames i)
+
+  few_is : keeps_few (open_frames t.tracks) a ≡ keeps_few p.counts.frames (bare op)
+  few_is =
+      ap (λ (n : ℕ). nat_le n MAX_FRAMES) (depth_is news (open_frames t.tracks) op)
+      ∙ ap (λ (n : ℕ). keeps_few n (bare op)) (sym known.counts.frames)
+
+  room_is : (has_room t a && keeps_few (open_frames t.tracks) a) ≡ has_place p.counts op
+  room_is = λ i.
+      (nat_lt (sym known.counts.ops i) MAX_OPS && (not (report_is news op i) || nat_lt (sym known.counts.reports i) MAX_REPORTS))
+      && few_is i
+
+  added_is : add t a ≡ (place_for p.counts op >>= λ _. Ok longer)
+  added_is =
+      (λ i. cond (not (frame_is i)) (Err NoFrame) (cond (room_is i) (Ok longer) (Err TooMany)))
+      ∙ verdict_is (has_frame p.counts.frames (bare op)) (has_place p.counts op) longer
+
+  -- the line comes to what the counts allow
+  pub comes_to : (k : Keyword) (ws : List (List ℕ)) → action_at k ws ≡ Ok a
+      → item_at t (heads.Op k) ws ≡ (place_for p.counts op >>= λ _. Ok longer)
+  comes_to k ws read = ap (λ s. s >>= λ b. add t b) read ∙ added_is
 
   module _ (ops : List Track) (is : ops ≡ with_op p.trace.tracks op) where
     abbrev then : Progress
     then = record { trace = record { texts = news; tracks = ops; picks = p.trace.picks }; counts = counts_with p.counts op }
 
-    tracks_then : tracks_of news ops ≡ with_action t.tracks (action_of news op)
+    tracks_then : tracks_of news ops ≡ with_action t.tracks a
     tracks_then =
         ap (tracks_of news) is ∙ with_op_is news p.trace.tracks op
-        ∙ ap (λ (ts : List PlainTrack). with_action ts (action_of news op)) (tracks_stay p.trace.texts news p.trace.tracks grows known.tracks)
+        ∙ ap (λ (ts : List PlainTrack). with_action ts a) (tracks_stay p.trace.texts news p.trace.tracks grows known.tracks)
 
-    -- there was room
-    pub added : (k : Keyword) (ws : List (List ℕ)) → action_at k ws ≡ Ok (action_of news op) → has_place p.counts op ≡ true → item_at t (heads.Op k) ws ≡ Ok (plain then.trace)
-    added k ws read room =
-        ap (λ s. s >>= λ a. add t a) read
-        ∙ ap (λ (b : Bool). cond b (Ok (record t { tracks = with_action t.tracks (action_of news op) })) (Err TooMany)) (room_is ∙ room)
+    -- it came
+    pub added : (k : Keyword) (ws : List (List ℕ)) → action_at k ws ≡ Ok a → place_for p.counts op ≡ Ok tt → item_at t (heads.Op k) ws ≡ Ok (plain then.trace)
+    added k ws read came =
+        comes_to k ws read ∙ ap (λ s. s >>= λ _. Ok longer) came
         ∙ (λ i. Ok (record t { tracks = sym tracks_then i }))
 
-    pub still_known : IsKnownOp news op → AddsBlock p.trace.texts news op → has_place p.counts op ≡ true → 0 < length p.trace.tracks
+    pub still_known : IsKnownOp news op → AddsText p.trace.texts news op → place_for p.counts op ≡ Ok tt → 0 < length p.trace.tracks
         → IsKnownSoFar then
-    still_known fits more room some =
-        let rooms = both (nat_lt p.counts.ops MAX_OPS) (not (is_report_op op) || nat_lt p.counts.reports MAX_REPORTS) room in
+    still_known fits more came some =
+        let framed = test_fails (not (has_frame p.counts.frames (bare op))) (cond (has_place p.counts op) (Ok tt) (Err TooMany)) NoFrame tt came in
+        let room = test_holds (has_place p.counts op) (Ok tt) TooMany tt framed.1 in
+        let kept = both (nat_lt p.counts.ops MAX_OPS && (not (is_report (bare op)) || nat_lt p.counts.reports MAX_REPORTS)) (keeps_few p.counts.frames (bare op)) room.0 in
+        let rooms = both (nat_lt p.counts.ops MAX_OPS) (not (is_report (bare op)) || nat_lt p.counts.reports MAX_REPORTS) kept.0 in
         let below : p.counts.ops < MAX_OPS = ltb-true _ _ rooms.0 in
         let same : length ops ≡ length p.trace.tracks = ap length is ∙ with_op_length p.trace.tracks op in
         let begun = begun_is t.tracks (omega (arith, some, length_plain)) in
@@ -99,17 +138,20 @@ module _ (p : Progress) (news : List Name) (op : Op) (known : IsKnownSoFar p) (g
           tracks = subst (AllByRecursion (IsKnownTrack news)) (sym is) (with_op_known news p.trace.tracks op fits (tracks_still_known p.trace.texts news p.trace.tracks grows known.tracks));
           few = omega (arith, same, known.few);
           table =
-              more ∙ ap (λ (l : List Name). with_block l (name_of (action_of news op))) known.table
-              ∙ sym (table_with_action t.tracks (action_of news op) begun) ∙ ap table_of (sym tracks_then);
+              more ∙ ap (λ (l : List Name). with_text_of l (text_of a)) known.table
+              ∙ sym (table_with_action t.tracks a begun) ∙ ap table_of (sym tracks_then);
           texts = omega (arith, same, known.texts, few_more p.trace.texts news grows);
           counts = record {
-            ops = omega (arith, known.counts.ops, action_count-with t.tracks (action_of news op) begun, ap action_count tracks_then);
-            reports = report_counts (is_report_op op) p.counts.reports ∙ (λ i. known.counts.reports i + cond (sym (report_is news op) i) 1 0)
-                ∙ sym (report_count-with t.tracks (action_of news op) begun) ∙ ap report_count (sym tracks_then);
+            ops = omega (arith, known.counts.ops, action_count-with t.tracks a begun, ap action_count tracks_then);
+            reports = report_counts (is_report (bare op)) p.counts.reports ∙ (λ i. known.counts.reports i + cond (sym (report_is news op) i) 1 0)
+                ∙ sym (report_count-with t.tracks a begun) ∙ ap report_count (sym tracks_then);
             picks = known.counts.picks;
+            frames = sym (depth_is news p.counts.frames op) ∙ ap (λ (n : ℕ). depth_after n a) known.counts.frames
+                ∙ sym (open_with t.tracks a begun) ∙ ap open_frames (sym tracks_then);
           };
           few_ops = omega (arith, below);
           few_picks = known.few_picks;
+          few_frames = leb-true (depth_after p.counts.frames (bare op)) MAX_FRAMES kept.1;
         }
       where
         length_plain : length t.tracks ≡ length p.trace.tracks

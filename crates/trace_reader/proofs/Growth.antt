@@ -1,5 +1,7 @@
 -- A table that grows changes no number's text.
-use Rattle.std.proofs.Common.{◌≡◌, ℕ, ◌+◌, ◌≤◌, List, [], ◌∷◌, ◌++◌, length, slice_get, Some, refl, sym, ap, ◌∙◌, arith, length-append, append-nil, subst, map, Bool, true, false, ◌||◌, cond}
+use Rattle.std.proofs.Common.{◌≡◌, ℕ, ◌+◌, ◌≤◌, List, [], ◌∷◌, ◌++◌, length, slice_get, Some, refl, sym, ap}
+use Rattle.std.proofs.Common.{◌∙◌, arith, length-append, append-nil, subst, map, Bool, true, false, ◌||◌}
+use Rattle.std.proofs.Common.{cond}
 use Rattle.std.specs.List.{AllByRecursion, list_any}
 use Rattle.std.specs.Str.{bytes_eq}
 use Rattle.std.proofs.lemmas.Option.{slice_get_within}
@@ -9,10 +11,10 @@ use Rattle.mem_base.specs.declared.trace.Track.{Track}
 use Rattle.mem_base.specs.declared.trace.Op.{Op}
 use Rattle.mem_base.specs.declared.trace.Op.TheVariants.{Heap}
 use Rattle.mem_base.specs.Name.{Name}
-use Rattle.trace_model.specs.Plain.{action_of, is_report, tracks_of}
+use Rattle.trace_model.specs.Plain.{action_of, depth_after, is_report, needs_frame, tracks_of}
 use Rattle.trace_model.specs.Known.{IsKnown}
 use Rattle.trace_model.proofs.CallerLemmas.{actions_stay, known_stays, ops_stay, text_stays}
-use Rattle.trace_reader.specs.Progress.{Extends, IsKnownTrack, is_report_op}
+use Rattle.trace_reader.specs.Progress.{Extends, IsKnownTrack, bare}
 
 pub interned_extends : (texts : List Name) (text : Name) → Extends texts (with_text texts text)
 interned_extends texts text = by (list_any (bytes_eq text) texts)
@@ -51,7 +53,15 @@ tracks_stay texts news ts grows known = ap (λ (n : List Name). tracks_of n ts) 
 pub few_more : (texts news : List Name) → Extends texts news → length news ≤ length texts + 2
 few_more texts news grows = omega (arith, ap length grows.grown, length-append texts grows.more, grows.few)
 
--- the table does not matter to what an operation prints
-pub report_is : (texts : List Name) (op : Op) → is_report (action_of texts op) ≡ is_report_op op
+-- the table does not matter to what an operation prints, nor to what it does to frames
+pub report_is : (texts : List Name) (op : Op) → is_report (action_of texts op) ≡ is_report (bare op)
 report_is texts Heap = refl
 report_is texts op = refl
+
+pub need_is : (texts : List Name) (op : Op) → needs_frame (action_of texts op) ≡ needs_frame (bare op)
+need_is texts Heap = refl
+need_is texts op = refl
+
+pub depth_is : (texts : List Name) (n : ℕ) (op : Op) → depth_after n (action_of texts op) ≡ depth_after n (bare op)
+depth_is texts n Heap = refl
+depth_is texts n op = refl

@@ -1,5 +1,6 @@
 -- Reading line after line, as a loop does.
-use Rattle.std.proofs.Common.{◌≡◌, ◌==◌, ℕ, ◌+◌, Bool, true, false, cond, List, ◌∷◌, Result, Ok, Err, refl, sym, ap, ◌∙◌}
+use Rattle.std.proofs.Common.{◌≡◌, ◌==◌, ℕ, ◌+◌, Bool, true, false, cond, List, ◌∷◌, Result, Ok, Err, refl}
+use Rattle.std.proofs.Common.{sym, ap, ◌∙◌}
 use Rattle.std.specs.List.{list_all, slice_split}
 use Rattle.trace_model.specs.Operands.{◌>>=◌, is_between}
 use Rattle.trace_model.specs.Spelling.{blank}

@@ -1,5 +1,7 @@
 -- A track that begins, and picks of a track.
-use Rattle.std.proofs.Common.{◌≡◌, ℕ, zero, suc, ◌+◌, ◌<◌, ◌≤◌, Bool, true, false, cond, ◌||◌, List, [], ◌∷◌, ◌++◌, length, slice_get, Some, None, Result, Ok, Err, refl, sym, ap, subst, ◌∙◌, arith, add-one, length-append, inl, inr}
+use Rattle.std.proofs.Common.{◌≡◌, ℕ, zero, suc, ◌+◌, ◌<◌, ◌≤◌, Bool, true, false, cond, ◌||◌, List, [], ◌∷◌}
+use Rattle.std.proofs.Common.{◌++◌, length, slice_get, Some, None, Result, Ok, Err, refl, sym, ap, subst, ◌∙◌}
+use Rattle.std.proofs.Common.{arith, add-one, length-append, inl, inr}
 use Rattle.std.specs.Prelude.{is_ok, unwrap_or, nat_lt}
 use Rattle.std.specs.List.{AllByRecursion, list_any}
 use Rattle.std.specs.Str.{bytes_eq}
@@ -17,10 +19,10 @@ use Rattle.trace_model.specs.Plain.{PlainTrack, PlainTrace, plain, text_at, trac
 use Rattle.trace_model.specs.Spelling.{action_count, report_count, pick_count}
 use Rattle.trace_model.specs.Known.{IsKnown}
 use Rattle.trace_model.specs.Table.{table_of}
-use Rattle.trace_model.specs.Reading.{start, with_track, index_of, pick}
+use Rattle.trace_model.specs.Reading.{start, with_track, open_frames, index_of, pick}
 use Rattle.trace_model.specs.declared.cause.TraceCause.{TraceCause}
 use Rattle.trace_model.specs.declared.cause.TraceCause.TheVariants.{NoTrack, SameTrack, TooMany}
-use Rattle.trace_model.proofs.CallerLemmas.{all_push, count_of_new, reports_of_new, table_with_track}
+use Rattle.trace_model.proofs.CallerLemmas.{all_push, count_of_new, reports_of_new, open_with_last, table_with_track}
 use Rattle.trace_reader.specs.Progress.{Extends, IsKnownTrack, IsKnownSoFar}
 use Rattle.trace_reader.specs.declared.progress.Progress.{Progress}
 use Rattle.trace_reader.proofs.Growth.{tracks_stay, tracks_still_known, few_more}
@@ -110,7 +112,10 @@ module _ (p : Progress) (name : Name) (known : IsKnownSoFar p) where
     module _ (news : List Name) (id : TextId) (grows : Extends p.trace.texts news) (at : slice_get news id.0 ≡ Some name) (room : length p.trace.tracks < MAX_TRACKS)
         (ts : List Track) (pushed : ts ≡ p.trace.tracks ++ record { name = id; ops = [] } ∷ []) where
       abbrev begun : Progress
-      begun = record { trace = record { texts = news; tracks = ts; picks = p.trace.picks }; counts = p.counts }
+      begun = record {
+        trace = record { texts = news; tracks = ts; picks = p.trace.picks };
+        counts = record { ops = p.counts.ops; reports = p.counts.reports; picks = p.counts.picks; frames = 0 };
+      }
 
       tracks_then : tracks_of news ts ≡ t.tracks ++ record { name = name; actions = [] } ∷ []
       tracks_then =
@@ -137,9 +142,11 @@ module _ (p : Progress) (name : Name) (known : IsKnownSoFar p) where
               ops = known.counts.ops ∙ sym (count_of_new t.tracks name) ∙ ap action_count (sym tracks_then);
               reports = known.counts.reports ∙ sym (reports_of_new t.tracks name) ∙ ap report_count (sym tracks_then);
               picks = known.counts.picks;
+              frames = sym (open_with_last t.tracks (record { name = name; actions = [] })) ∙ ap open_frames (sym tracks_then);
             };
             few_ops = known.few_ops;
             few_picks = known.few_picks;
+            few_frames = omega arith;
           }
 
 -- ---- picks of a track
@@ -154,7 +161,7 @@ module _ (p : Progress) (track times : ℕ) (known : IsKnownSoFar p) where
 
   module _ (few : p.counts.picks + times ≤ MAX_PICKS) (picks : List Pick) (pushed : picks ≡ p.trace.picks ++ record { track = track; times = times } ∷ []) where
     abbrev picked : Progress
-    picked = record { trace = record { texts = p.trace.texts; tracks = p.trace.tracks; picks = picks }; counts = record { ops = p.counts.ops; reports = p.counts.reports; picks = p.counts.picks + times } }
+    picked = record { trace = record { texts = p.trace.texts; tracks = p.trace.tracks; picks = picks }; counts = record { ops = p.counts.ops; reports = p.counts.reports; picks = p.counts.picks + times; frames = p.counts.frames } }
 
     picks_then : picks_of picks ≡ before.picks ++ (track, times) ∷ []
     picks_then = ap picks_of pushed ∙ map-append _ p.trace.picks (record { track = track; times = times } ∷ [])
@@ -174,7 +181,9 @@ module _ (p : Progress) (track times : ℕ) (known : IsKnownSoFar p) where
         ops = known.counts.ops;
         reports = known.counts.reports;
         picks = omega (arith, known.counts.picks, ap pick_count picks_then, sum_by-append (λ (q : ℕ × ℕ). q.1) before.picks ((track, times) ∷ []));
+        frames = known.counts.frames;
       };
       few_ops = known.few_ops;
       few_picks = few;
+      few_frames = known.few_frames;
     }

@@ -1,12 +1,10 @@
 -- What the functions that read answer, beside what reading gives.
-use Rattle.std.specs.Prelude.{◌≡◌, ◌==◌, ℕ, List, [], ◌∷◌, Result, Ok, Err, if◌then◌else◌}
+use Rattle.std.specs.Prelude.{◌≡◌, ◌==◌, ℕ, List, Result, Ok, Err, if◌then◌else◌}
 use Rattle.std.specs.List.{list_all, slice_split}
-use Rattle.std.specs.Str.{bytes_eq}
 use Rattle.trace_model.specs.declared.cause.TraceCause.{TraceCause}
-use Rattle.trace_model.specs.declared.cause.TraceCause.TheVariants.{BadByte, UnknownWord}
-use Rattle.trace_model.specs.declared.keyword.Head.{Head}
+use Rattle.trace_model.specs.declared.cause.TraceCause.TheVariants.{BadByte}
 use Rattle.trace_model.specs.Operands.{is_between}
-use Rattle.trace_model.specs.Spelling.{blank, head_text}
+use Rattle.trace_model.specs.Spelling.{blank}
 use Rattle.trace_model.specs.Reading.{Stop}
 use Rattle.trace_reader.specs.declared.error.LineError.{LineError}
 use Rattle.trace_reader.specs.declared.error.LineError.TheVariants as line
@@ -28,11 +26,6 @@ Gives view (Err e) read = Fails e read
 -- the parts of a line between its blanks, where all its bytes are printable
 abbrev pub words_in : List ℕ → Result (List (List ℕ)) TraceCause
 words_in line = if list_all (is_between 32 126) line then Ok (slice_split (λ b. b == blank) line) else Err BadByte
-
--- the one of these heads whose word this is
-abbrev pub head_among : List Head → List ℕ → Result Head TraceCause
-head_among [] w = Err UnknownWord
-head_among (h ∷ hs) w = if bytes_eq w (head_text h) then Ok h else head_among hs w
 
 -- ---- of a whole trace
 

@@ -1,41 +1,26 @@
 //! Each kind of operand of a line, read from its word: `Ok` of what the word spells, or the first
 //! cause for which it is refused. Words are bytes, and nothing is copied but the bytes of a poke.
-ghost use Rattle.std.specs.Prelude.{◌≡◌, ◌*◌, ◌+◌, ◌-◌, ◌^◌, ◌≤◌, ◌&&◌, ◌∷◌, ℕ, List, nat_lt, length, IfOk, Some, None, if◌then◌else◌};
+ghost use Rattle.std.specs.Prelude.{◌≡◌, ◌*◌, ◌+◌, ◌-◌, ◌^◌, ◌≤◌, ◌&&◌, ◌∷◌, ℕ, List, nat_lt, length, IfOk};
+ghost use Rattle.std.specs.Prelude.{Some, None, if◌then◌else◌};
 ghost use Rattle.std.specs.List.{list_all};
 ghost use Rattle.mem_base.specs.Offset.{IsOffset};
-ghost use Rattle.trace_model.specs.Operands.{is_between, is_name_byte, digits_from, number_at, offset_at};
+ghost use Rattle.trace_model.specs.Operands.{is_between, is_file_byte, is_name_byte, digits_from, number_at};
+ghost use Rattle.trace_model.specs.Operands.{offset_at};
 ghost use Rattle.trace_model.specs.Operands.{forward_at, backward_at, number_in, count_at, refusal_at};
+ghost use Rattle.trace_model.specs.Operands.{line_number_at, limit_at, domain_at, file_at};
 ghost use Rattle.trace_model.specs.Operands.{times_at, name_at, letter_at, side_at, hex_from, hex_at};
 ghost use Rattle.trace_model.specs.Operands.{digit_of};
 ghost use Rattle.trace_model.specs.Reading.{head_at};
-ghost use Rattle.trace_reader.specs.Answers.{Gives, head_among};
+ghost use Rattle.trace_reader.specs.Answers.{Gives};
 
 use crate::error::LineError;
-use mem_base::limits::{MAX_NAME, MAX_PICKS, MAX_REACH, MAX_REFUSAL};
+use crate::words::is_sign;
+use mem_base::limits::{
+    MAX_FILE, MAX_FRAME_LIMIT, MAX_LINE, MAX_NAME, MAX_PICKS, MAX_REACH, MAX_REFUSAL,
+};
 use mem_base::{Letter, List, Side};
 use std::alloc::Global;
-use trace_model::{Head, Keyword, TraceCause};
-
-// The heads whose words begin with this letter.
-fn heads_with(letter: u8) -> &'static [Head]
-    ensures { (rest : List ℕ) → head_among result.now (letter ∷ rest) ≡ head_at (letter ∷ rest) }
-{
-    match letter {
-        b'a' => &[Head::Op(Keyword::Acquire)],
-        b'c' => &[Head::Op(Keyword::Calloc)],
-        b'f' => &[Head::Op(Keyword::Free)],
-        b'h' => &[Head::Op(Keyword::Heap)],
-        b'm' => &[Head::Op(Keyword::Malloc)],
-        b'p' => &[Head::Pick, Head::Op(Keyword::Poke), Head::Op(Keyword::Peek)],
-        b'r' => &[
-            Head::Op(Keyword::Release),
-            Head::Op(Keyword::Realloc),
-            Head::Op(Keyword::Refuse),
-        ],
-        b't' => &[Head::Track],
-        _ => &[],
-    }
-}
+use trace_model::{Head, TraceCause};
 
 /// What the first word of a line begins. It is compared only with the words that have its first letter.
 pub fn head(word: &[u8]) -> Result<Head, TraceCause>
@@ -44,7 +29,7 @@ pub fn head(word: &[u8]) -> Result<Head, TraceCause>
     let Some((letter, _)) = word.split_first() else {
         return Err(TraceCause::UnknownWord);
     };
-    let heads = heads_with(*letter);
+    let heads = Head::with_letter(*letter);
     for head in heads {
         if word == head.word().as_bytes() {
             return Ok(*head);
@@ -153,6 +138,33 @@ pub fn refusal(word: &[u8]) -> Result<u64, TraceCause>
     number_in(word, 1, MAX_REFUSAL)
 }
 
+/// The number of a line of a file.
+pub fn line_number(word: &[u8]) -> Result<u32, TraceCause>
+    ensures value { result ≡ line_number_at word.now }
+    ensures range { IfOk result (λ n. n ≤ MAX_LINE) }
+{
+    let value = number_in(word, 0, MAX_LINE as u64)?;
+    Ok(value as u32)
+}
+
+/// How many frames the trace of a block keeps at most.
+pub fn limit(word: &[u8]) -> Result<u32, TraceCause>
+    ensures value { result ≡ limit_at word.now }
+    ensures range { IfOk result (λ n. (1 ≤ n) × (n ≤ MAX_FRAME_LIMIT)) }
+{
+    let value = number_in(word, 1, MAX_FRAME_LIMIT as u64)?;
+    Ok(value as u32)
+}
+
+/// The domain of a number that a program marks.
+pub fn domain(word: &[u8]) -> Result<u32, TraceCause>
+    ensures value { result ≡ domain_at word.now }
+    ensures range { IfOk result (λ n. 1 ≤ n) }
+{
+    let value = number_in(word, 1, u32::MAX as u64)?;
+    Ok(value as u32)
+}
+
 /// How often a track is picked in a row.
 pub fn times(word: &[u8]) -> Result<u32, TraceCause>
     ensures value { result ≡ times_at word.now }
@@ -183,6 +195,26 @@ pub fn name(word: &[u8]) -> Result<(), TraceCause>
         return Err(TraceCause::BadName);
     }
     if !has_name_bytes(word) {
+        return Err(TraceCause::BadName);
+    }
+    Ok(())
+}
+
+// Whether each byte may stand in the name of a file.
+fn has_signs(word: &[u8]) -> bool
+    ensures { result ≡ list_all is_file_byte word.now }
+{
+    word.iter().all(|b| is_sign(*b))
+}
+
+/// Whether the word is the name of a file.
+pub fn file(word: &[u8]) -> Result<(), TraceCause>
+    ensures { result ≡ file_at word.now }
+{
+    if word.is_empty() || word.len() > MAX_FILE {
+        return Err(TraceCause::BadName);
+    }
+    if !has_signs(word) {
         return Err(TraceCause::BadName);
     }
     Ok(())

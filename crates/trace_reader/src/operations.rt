@@ -1,19 +1,23 @@
 //! Operations, read from the words of their lines. The operands are read from left to right, then what
-//! they say together is checked, and the block's name goes into the table last.
+//! they say together is checked, and the text that they name, of a block or a file, goes into the table
+//! last.
 ghost use Rattle.std.specs.Prelude.{◌≡◌, ◌-◌, ◌<◌, ◌^◌, length, map, IfOk, OnOk, slice_get, Some, None, Ok, Err};
 ghost use Rattle.std.specs.Prelude.{if◌then◌else◌};
 ghost use Rattle.mem_base.specs.Name.{Name};
 ghost use Rattle.mem_base.specs.Texts.{with_text};
 ghost use Rattle.trace_model.specs.Operands.{is_forged};
-ghost use Rattle.trace_model.specs.Plain.{action_of, name_of, malloc_at, calloc_at, realloc_at, free_at};
-ghost use Rattle.trace_model.specs.Plain.{poke_at, peek_at, refuse_at, action_at};
+ghost use Rattle.trace_model.specs.Plain.{action_of, text_of, malloc_at, calloc_at, realloc_at, free_at};
+ghost use Rattle.trace_model.specs.Plain.{poke_at, peek_at, refuse_at, enter_at, go_to_at, start_tracing_at};
+ghost use Rattle.trace_model.specs.Plain.{mark_at, unmark_at, origin_at, action_at};
 ghost use Rattle.trace_model.specs.Known.{IsKnown, IsKnownOp};
 ghost use Rattle.trace_model.specs.declared.cause.TraceCause.TheVariants.{ForgedLetter};
 ghost use Rattle.trace_reader.specs.Answers.{Gives};
-ghost use Rattle.trace_reader.specs.Progress.{AddsBlock, Extends};
+ghost use Rattle.trace_reader.specs.Progress.{AddsText, Extends};
 
 use crate::error::LineError;
-use crate::operands::{count, hex, letter, name, number, offset, refusal, side};
+use crate::operands::{
+    count, domain, file, hex, letter, limit, line_number, name, number, offset, refusal, side,
+};
 use mem_base::{List, Op, TextId, Texts};
 use std::alloc::{AllocError, Global};
 use trace_model::{Keyword, TraceCause};
@@ -35,7 +39,7 @@ fn malloc(texts: &mut Texts, domain: &[u8], block: &[u8], size: &[u8]) -> Result
     requires { length texts.old < 2 ^ 32 - 1 }
     ensures grows { Extends texts.old texts.new }
     ensures op { Gives (action_of texts.new) result (malloc_at domain.now block.now size.now) }
-    ensures table { IfOk result (AddsBlock texts.old texts.new) }
+    ensures table { IfOk result (AddsText texts.old texts.new) }
     ensures known { IfOk result (IsKnownOp texts.new) }
 {
     let domain = letter(domain)?;
@@ -56,7 +60,7 @@ fn calloc(
     ensures grows { Extends texts.old texts.new }
     ensures op { Gives (action_of texts.new) result
         (calloc_at domain.now block.now elements.now size.now) }
-    ensures table { IfOk result (AddsBlock texts.old texts.new) }
+    ensures table { IfOk result (AddsText texts.old texts.new) }
     ensures known { IfOk result (IsKnownOp texts.new) }
 {
     let domain = letter(domain)?;
@@ -71,7 +75,7 @@ fn realloc(texts: &mut Texts, domain: &[u8], block: &[u8], size: &[u8]) -> Resul
     requires { length texts.old < 2 ^ 32 - 1 }
     ensures grows { Extends texts.old texts.new }
     ensures op { Gives (action_of texts.new) result (realloc_at domain.now block.now size.now) }
-    ensures table { IfOk result (AddsBlock texts.old texts.new) }
+    ensures table { IfOk result (AddsText texts.old texts.new) }
     ensures known { IfOk result (IsKnownOp texts.new) }
 {
     let domain = letter(domain)?;
@@ -85,7 +89,7 @@ fn free(texts: &mut Texts, domain: &[u8], block: &[u8]) -> Result<Op, LineError>
     requires { length texts.old < 2 ^ 32 - 1 }
     ensures grows { Extends texts.old texts.new }
     ensures op { Gives (action_of texts.new) result (free_at domain.now block.now) }
-    ensures table { IfOk result (AddsBlock texts.old texts.new) }
+    ensures table { IfOk result (AddsText texts.old texts.new) }
     ensures known { IfOk result (IsKnownOp texts.new) }
 {
     let domain = letter(domain)?;
@@ -114,7 +118,7 @@ fn poke(
     requires { length texts.old < 2 ^ 32 - 1 }
     ensures grows { Extends texts.old texts.new }
     ensures op { Gives (action_of texts.new) result (poke_at block.now at.now digits.now) }
-    ensures table { IfOk result (AddsBlock texts.old texts.new) }
+    ensures table { IfOk result (AddsText texts.old texts.new) }
     ensures known { IfOk result (IsKnownOp texts.new) }
 {
     name(block)?;
@@ -129,7 +133,7 @@ fn peek(texts: &mut Texts, block: &[u8], at: &[u8], size: &[u8]) -> Result<Op, L
     requires { length texts.old < 2 ^ 32 - 1 }
     ensures grows { Extends texts.old texts.new }
     ensures op { Gives (action_of texts.new) result (peek_at block.now at.now size.now) }
-    ensures table { IfOk result (AddsBlock texts.old texts.new) }
+    ensures table { IfOk result (AddsText texts.old texts.new) }
     ensures known { IfOk result (IsKnownOp texts.new) }
 {
     name(block)?;
@@ -142,11 +146,75 @@ fn peek(texts: &mut Texts, block: &[u8], at: &[u8], size: &[u8]) -> Result<Op, L
 #[tactic(auto, unfolding(trace_model::specs::Plain::refuse_at))]
 fn refuse(source: &[u8], request: &[u8]) -> Result<Op, LineError>
     ensures op { (texts : List Name) → Gives (action_of texts) result (refuse_at source.now request.now) }
-    ensures none { IfOk result (λ op. (texts : List Name) → name_of (action_of texts op) ≡ None) }
+    ensures none { IfOk result (λ op. (texts : List Name) → text_of (action_of texts op) ≡ None) }
     ensures known { IfOk result (λ op. (texts : List Name) → IsKnownOp texts op) }
 {
     let source = side(source)?;
     Ok(Op::Refuse(source, refusal(request)?))
+}
+
+#[tactic(auto, unfolding(trace_model::specs::Plain::enter_at))]
+fn enter(texts: &mut Texts, path: &[u8], line: &[u8]) -> Result<Op, LineError>
+    requires { length texts.old < 2 ^ 32 - 1 }
+    ensures grows { Extends texts.old texts.new }
+    ensures op { Gives (action_of texts.new) result (enter_at path.now line.now) }
+    ensures table { IfOk result (AddsText texts.old texts.new) }
+    ensures known { IfOk result (IsKnownOp texts.new) }
+{
+    file(path)?;
+    let line = line_number(line)?;
+    Ok(Op::Enter(intern(texts, path)?, line))
+}
+
+#[tactic(auto, unfolding(trace_model::specs::Plain::go_to_at))]
+fn go_to(line: &[u8]) -> Result<Op, LineError>
+    ensures op { (texts : List Name) → Gives (action_of texts) result (go_to_at line.now) }
+    ensures none { IfOk result (λ op. (texts : List Name) → text_of (action_of texts op) ≡ None) }
+    ensures known { IfOk result (λ op. (texts : List Name) → IsKnownOp texts op) }
+{
+    Ok(Op::Line(line_number(line)?))
+}
+
+#[tactic(auto, unfolding(trace_model::specs::Plain::start_tracing_at))]
+fn start(frames: &[u8]) -> Result<Op, LineError>
+    ensures op { (texts : List Name) → Gives (action_of texts) result (start_tracing_at frames.now) }
+    ensures none { IfOk result (λ op. (texts : List Name) → text_of (action_of texts op) ≡ None) }
+    ensures known { IfOk result (λ op. (texts : List Name) → IsKnownOp texts op) }
+{
+    Ok(Op::Start(limit(frames)?))
+}
+
+#[tactic(auto, unfolding(trace_model::specs::Plain::mark_at))]
+fn mark(space: &[u8], own: &[u8], size: &[u8]) -> Result<Op, LineError>
+    ensures op { (texts : List Name) → Gives (action_of texts) result (mark_at space.now own.now size.now) }
+    ensures none { IfOk result (λ op. (texts : List Name) → text_of (action_of texts op) ≡ None) }
+    ensures known { IfOk result (λ op. (texts : List Name) → IsKnownOp texts op) }
+{
+    let space = domain(space)?;
+    let own = number(own)?;
+    Ok(Op::Mark(space, own, number(size)?))
+}
+
+#[tactic(auto, unfolding(trace_model::specs::Plain::unmark_at))]
+fn unmark(space: &[u8], own: &[u8]) -> Result<Op, LineError>
+    ensures op { (texts : List Name) → Gives (action_of texts) result (unmark_at space.now own.now) }
+    ensures none { IfOk result (λ op. (texts : List Name) → text_of (action_of texts op) ≡ None) }
+    ensures known { IfOk result (λ op. (texts : List Name) → IsKnownOp texts op) }
+{
+    let space = domain(space)?;
+    Ok(Op::Unmark(space, number(own)?))
+}
+
+#[tactic(auto, unfolding(trace_model::specs::Plain::origin_at))]
+fn origin(texts: &mut Texts, block: &[u8]) -> Result<Op, LineError>
+    requires { length texts.old < 2 ^ 32 - 1 }
+    ensures grows { Extends texts.old texts.new }
+    ensures op { Gives (action_of texts.new) result (origin_at block.now) }
+    ensures table { IfOk result (AddsText texts.old texts.new) }
+    ensures known { IfOk result (IsKnownOp texts.new) }
+{
+    name(block)?;
+    Ok(Op::Origin(intern(texts, block)?))
 }
 
 /// The operation that the words after the keyword name.
@@ -160,7 +228,7 @@ pub fn read_op(
     requires { length texts.old < 2 ^ 32 - 1 }
     ensures grows { Extends texts.old texts.new }
     ensures op { Gives (action_of texts.new) result (action_at keyword (map (λ w. w.now) words.now)) }
-    ensures table { IfOk result (AddsBlock texts.old texts.new) }
+    ensures table { IfOk result (AddsText texts.old texts.new) }
     ensures known { IfOk result (IsKnownOp texts.new) }
 {
     match (keyword, words) {
@@ -176,18 +244,37 @@ pub fn read_op(
         (Keyword::Peek, [block, at, size]) => peek(texts, block, at, size),
         (Keyword::Heap, []) => Ok(Op::Heap),
         (Keyword::Refuse, [source, request]) => refuse(source, request),
+        (Keyword::Call, [path, line]) => enter(texts, path, line),
+        (Keyword::Line, [line]) => go_to(line),
+        (Keyword::Return, []) => Ok(Op::Leave),
+        (Keyword::Start, [frames]) => start(frames),
+        (Keyword::Stop, []) => Ok(Op::Stop),
+        (Keyword::Clear, []) => Ok(Op::Clear),
+        (Keyword::ResetPeak, []) => Ok(Op::ResetPeak),
+        (Keyword::Traced, []) => Ok(Op::Traced),
+        (Keyword::Mark, [space, own, size]) => mark(space, own, size),
+        (Keyword::Unmark, [space, own]) => unmark(space, own),
+        (Keyword::Where, [block]) => origin(texts, block),
+        // Another number of operands: of those that have none, one, two, three and four.
         (
             Keyword::Acquire
             | Keyword::Release
-            | Keyword::Malloc
-            | Keyword::Calloc
-            | Keyword::Realloc
-            | Keyword::Free
-            | Keyword::Poke
-            | Keyword::Peek
-            | Keyword::Heap
-            | Keyword::Refuse,
+            | Keyword::Return
+            | Keyword::Stop
+            | Keyword::Clear
+            | Keyword::ResetPeak
+            | Keyword::Traced
+            | Keyword::Heap,
             _,
         ) => Err(LineError::Wrong(TraceCause::BadWords)),
+        (Keyword::Line | Keyword::Start | Keyword::Where, _) => {
+            Err(LineError::Wrong(TraceCause::BadWords))
+        }
+        (Keyword::Free | Keyword::Call | Keyword::Unmark | Keyword::Refuse, _) => {
+            Err(LineError::Wrong(TraceCause::BadWords))
+        }
+        (Keyword::Malloc | Keyword::Realloc | Keyword::Poke | Keyword::Peek | Keyword::Mark, _) =>
+            Err(LineError::Wrong(TraceCause::BadWords)),
+        (Keyword::Calloc, _) => Err(LineError::Wrong(TraceCause::BadWords)),
     }
 }

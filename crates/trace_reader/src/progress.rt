@@ -1,28 +1,30 @@
-//! What was read so far, one line more at a time: the trace, and how many operations and picks it has, so
-//! that no line is read twice to keep the limits.
+//! What was read so far, one line more at a time: the trace, how many operations and picks it has, and how
+//! many frames its last track, so that no line is read twice to keep the limits.
 //!
 //! A line begins a track, is an operation of the last track, or picks a track. Its words are looked at in
 //! the order in which their faults count: the first word, its place among the lines, that no word is
-//! empty, and then the operands.
-ghost use Rattle.std.specs.Prelude.{◌≡◌, ◌+◌, ◌<◌, ◌≤◌, ◌-◌, ◌^◌, length, map, IfOk, OnOk, Ok, Err, false, if◌then◌else◌};
+//! empty, and then the operands. Whether an operation has the frame that it speaks of, and whether there is
+//! room for it, is asked last.
+ghost use Rattle.std.specs.Prelude.{◌≡◌, ◌+◌, ◌<◌, ◌≤◌, ◌-◌, ◌^◌, length, map, IfOk, OnOk, Ok, Err, false};
+ghost use Rattle.std.specs.Prelude.{if◌then◌else◌};
 ghost use Rattle.std.specs.List.{list_any, AllByRecursion};
-ghost use Rattle.mem_base.specs.declared.limits.TheConstants.{MAX_TRACKS as most_tracks};
-ghost use Rattle.trace_model.specs.Plain.{plain, tracks_of};
-ghost use Rattle.trace_model.specs.Reading.{line_at, words_at, item_at, start, start_at, pick_at, index_of, is_empty, opening};
+ghost use Rattle.mem_base.specs.declared.limits.TheConstants.{MAX_FRAMES as most_frames, MAX_TRACKS as most_tracks};
+ghost use Rattle.trace_model.specs.Plain.{is_report, plain, tracks_of};
+ghost use Rattle.trace_model.specs.Reading.{line_at, words_at, item_at, start, start_at, pick_at, index_of};
+ghost use Rattle.trace_model.specs.Reading.{is_empty, opening};
 ghost use Rattle.trace_model.specs.Reading as Reading;
-ghost use Rattle.trace_model.specs.declared.cause.TraceCause.TheVariants.{TooMany as too_many};
 ghost use Rattle.trace_model.specs.declared.keyword.Head.TheVariants as heads;
 ghost use Rattle.trace_reader.specs.Answers.{Gives};
-ghost use Rattle.trace_reader.specs.Progress.{IsKnownSoFar, IsKnownTrack, is_report_op, has_place, counts_with, with_op};
+ghost use Rattle.trace_reader.specs.Progress.{IsKnownSoFar, IsKnownTrack, bare, place_for, counts_with, with_op};
 
 use crate::error::LineError;
 use crate::operands::{head, name, times};
 use crate::operations::{intern, read_op};
 use crate::words::cut;
-use mem_base::limits::{MAX_OPS, MAX_PICKS, MAX_REPORTS, MAX_TRACKS};
+use mem_base::limits::{MAX_FRAMES, MAX_OPS, MAX_PICKS, MAX_REPORTS, MAX_TRACKS};
 use mem_base::{List, Op, Pick, Texts, Trace, Track, TrackId};
 use std::alloc::{AllocError, Global};
-use trace_model::{Head, Keyword, TraceCause};
+use trace_model::{Head, Keyword, TraceCause, depth_after, needs_frame};
 
 /// How much of what is limited a trace has.
 #[derive(Clone, Copy, Debug, Drop)]
@@ -33,6 +35,8 @@ pub struct Counts {
     pub reports: usize,
     /// The picks, each as often as it says.
     pub picks: u32,
+    /// The frames that the last track has.
+    pub frames: u32,
 }
 
 /// What was read so far.
@@ -44,7 +48,7 @@ pub struct Progress {
 
 // Whether an operation prints more than a reply.
 fn is_report(op: &Op) -> bool
-    ensures { result ≡ is_report_op op.now }
+    ensures { result ≡ is_report (bare op.now) }
 {
     match Keyword::of(op) {
         Some(keyword) => keyword.prints_more(),
@@ -53,19 +57,25 @@ fn is_report(op: &Op) -> bool
 }
 
 impl Counts {
-    // Counts one more operation, if there is room for it.
+    // Counts one more operation, if it has the frame that it speaks of and there is room for it.
     fn add_op(&mut self, op: &Op) -> Result<(), TraceCause>
-        ensures room { result ≡ (if has_place self.old op.now then Ok tt else Err too_many) }
+        requires { self.old.frames ≤ most_frames }
+        ensures room { result ≡ place_for self.old op.now }
         ensures counts { OnOk result (self.new ≡ counts_with self.old op.now) }
     {
+        if needs_frame(op) && self.frames == 0 {
+            return Err(TraceCause::NoFrame);
+        }
         let report = is_report(op);
-        if self.ops >= MAX_OPS || report && self.reports >= MAX_REPORTS {
+        let frames = depth_after(self.frames, op);
+        if self.ops >= MAX_OPS || report && self.reports >= MAX_REPORTS || frames > MAX_FRAMES {
             return Err(TraceCause::TooMany);
         }
         self.ops += 1;
         if report {
             self.reports += 1;
         }
+        self.frames = frames;
         Ok(())
     }
 }
@@ -120,6 +130,7 @@ impl Progress {
                 ops: 0,
                 reports: 0,
                 picks: 0,
+                frames: 0,
             },
         })
     }
@@ -216,6 +227,7 @@ impl Progress {
         let name = intern(&mut self.trace.texts, text)?;
         let ops = List::new(alloc);
         self.trace.tracks.push(Track { name, ops })?;
+        self.counts.frames = 0;
         Ok(())
     }
 

@@ -24,8 +24,8 @@ pub fn next_line(bytes: &[u8]) -> Option<(&[u8], &[u8])>
     }
 }
 
-// Whether a byte prints as a sign, which a blank does not.
-fn is_sign(byte: u8) -> bool
+/// Whether a byte prints as a sign, which a blank does not.
+pub fn is_sign(byte: u8) -> bool
     ensures { result ≡ is_between 33 126 byte }
 {
     byte >= 33 && byte <= 126

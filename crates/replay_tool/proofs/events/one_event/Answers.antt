@@ -1,8 +1,17 @@
-use Rattle.std.proofs.Common.{length, ap, ◌∙◌}
+use Rattle.std.proofs.Common.{length, sym, ap, subst, ◌∙◌}
+use Rattle.mem_base.specs.declared.trace.Trace.{Trace}
+use Rattle.event_model.specs.Replies.{IsKnownReply}
 use Rattle.replay_tool.specs.declared.status.Halt.TheVariants.{WriteFault}
 use Rattle.replay_tool.proofs.Kept.{buffer_is}
 use Rattle.replay_tool.proofs.Texts.{halt_is, wrote_is, broke_is}
 use Rattle.replay_tool.proofs.events.one_event.Goals as goal
+
+-- the files of the reply are in the machine's trace
+pub push_event-requires-clause-reply : goal.push_event-requires-clause-reply
+push_event-requires-clause-reply g c =
+    let did = c.in_ok-step.ensures in
+    let step = c.in_ok-step.step in
+    subst (λ (t : Trace). IsKnownReply (length t.texts) step.reply) (sym (c.trace.ensures.trace ∙ did.trace)) did.step.known
 
 pub returns-in_err-write_all-clause-ends : goal.returns-in_err-write_all-clause-ends
 returns-in_err-write_all-clause-ends g c =

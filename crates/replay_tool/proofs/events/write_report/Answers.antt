@@ -8,7 +8,9 @@ use Rattle.domain_api.specs.Held.{AreOut}
 use Rattle.event_model.specs.Events.{left_in}
 use Rattle.event_model.specs.Schedule.{FollowsTo}
 use Rattle.machine_core.specs.View.{MachineView, tracks_of, state_of}
-use Rattle.replay_tool.proofs.Kept.{known_now, less_left, goes_on, event_stops, event_trades, summary_ends, picked_now, picked_ready, follows_more, follows_still, whole_still, left_still, sound_still, going_still}
+use Rattle.replay_tool.proofs.Kept.{known_now, less_left, goes_on, event_stops, event_trades, summary_ends}
+use Rattle.replay_tool.proofs.Kept.{picked_now, picked_ready, follows_more, follows_still, whole_still}
+use Rattle.replay_tool.proofs.Kept.{left_still, sound_still, going_still}
 use Rattle.replay_tool.proofs.ServedLaws.{few_requests}
 use Rattle.replay_tool.proofs.events.write_report.Goals as goal
 

@@ -1,6 +1,5 @@
 use Rattle.std.proofs.Common.{◌≡◌, drop}
-use Rattle.trace_model.specs.Reading.{head_at}
-use Rattle.trace_reader.specs.Answers.{head_among}
+use Rattle.trace_model.specs.Reading.{head_among, head_at}
 use Rattle.trace_reader.proofs.operands.head.Given as goal
 
 -- the heads left give what all give

@@ -1,4 +1,5 @@
-use Rattle.std.proofs.Common.{◌≡◌, ◌&&◌, length, ◌++◌, ◌==◌, ◌+◌, Bool, true, ℕ, List, get_or, take, drop, map, sym, ap, ◌∙◌, arith, cond, Ok, Err}
+use Rattle.std.proofs.Common.{◌≡◌, ◌&&◌, length, ◌++◌, ◌==◌, ◌+◌, Bool, true, ℕ, List, get_or, take, drop}
+use Rattle.std.proofs.Common.{map, sym, ap, ◌∙◌, arith, cond, Ok, Err}
 use Rattle.std.proofs.lemmas.List.{take_all}
 use Rattle.trace_model.specs.declared.cause.TraceCause.TheVariants.{BadByte}
 use Rattle.std.proofs.lemmas.List.Folds.{list_all_more}

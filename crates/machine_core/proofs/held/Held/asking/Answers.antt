@@ -5,46 +5,70 @@ use Rattle.trace_model.specs.Plain.{IsKnownAmong}
 use Rattle.event_model.specs.Memory.{calloc_call, malloc_call, realloc_call}
 use Rattle.event_model.specs.State.{is_owner}
 use Rattle.block_store.specs.declared.answer.Answer.{Answer}
-use Rattle.machine_core.specs.Acts.{Acts, Asks}
+use Rattle.event_model.specs.Replies.{IsKnownReply}
+use Rattle.block_store.specs.Store.{sized_by}
+use Rattle.machine_core.specs.Acts.{Affects, Asks}
+use Rattle.machine_core.proofs.FollowLemmas.{sized_known, textless}
 use Rattle.machine_core.specs.declared.held.Held.{Held as Holding}
 use Rattle.machine_core.proofs.ActLemmas.{held_told, nothing_fails, nothing_fails_unrefused, on_err, told_asks}
-use Rattle.machine_core.proofs.HeldLemmas.{IsCallFor, call_is, free_acts, is_calloc, is_malloc, is_realloc, sized_does}
+use Rattle.machine_core.proofs.HeldLemmas.{IsCallFor, call_is, free_affects, is_calloc, is_malloc, is_realloc}
+use Rattle.machine_core.proofs.HeldLemmas.{sized_does}
 use Rattle.machine_core.proofs.held.Held.asking.Goals as goal
 
-pub returns-in-Malloc-clause-acts : goal.returns-in-Malloc-clause-acts
-returns-in-Malloc-clause-acts g c =
+pub returns-in-Malloc-clause-affects : goal.returns-in-Malloc-clause-affects
+returns-in-Malloc-clause-affects g c =
     let old = c.args.self.now in
     let known : c.in-Malloc.name.0 < length old.store.blocks = subst (IsKnownAmong (length old.store.blocks)) c.in-Malloc.is c.requires.known in
     let call = c.call-call.result in
     let of = call_is (λ v. malloc_call v c.in-Malloc.size) c.in-Malloc.letter (is_owner old.owner c.args.t) call c.call-call.ensures in
-    sized_does c.args.t c.args.op.now old (record { store = c.malloc.new.self; owner = old.owner }) c.in-Malloc.name (malloc_call call.letter c.in-Malloc.size) call.locked c.malloc.result refl
+    sized_does c.args.t c.args.op.now old (record old { store = c.malloc.new.self }) c.in-Malloc.name (malloc_call call.letter c.in-Malloc.size) call.locked c.malloc.result refl
     (subst (IsCallFor c.args.op.now c.in-Malloc.name) (sym of.0) (is_malloc c.args.op.now c.in-Malloc.letter c.in-Malloc.name c.in-Malloc.size c.in-Malloc.is)) of.1 known c.malloc.ensures.turn c.malloc.ensures.fits
 
-pub returns-in-Calloc-clause-acts : goal.returns-in-Calloc-clause-acts
-returns-in-Calloc-clause-acts g c =
+pub returns-in-Calloc-clause-affects : goal.returns-in-Calloc-clause-affects
+returns-in-Calloc-clause-affects g c =
     let old = c.args.self.now in
     let known : c.in-Calloc.name.0 < length old.store.blocks = subst (IsKnownAmong (length old.store.blocks)) c.in-Calloc.is c.requires.known in
     let call = c.call-call-in-Calloc.result in
     let of = call_is (λ v. calloc_call v c.in-Calloc.elements c.in-Calloc.size) c.in-Calloc.letter (is_owner old.owner c.args.t) call c.call-call-in-Calloc.ensures in
-    sized_does c.args.t c.args.op.now old (record { store = c.calloc.new.self; owner = old.owner }) c.in-Calloc.name (calloc_call call.letter c.in-Calloc.elements c.in-Calloc.size) call.locked c.calloc.result refl
+    sized_does c.args.t c.args.op.now old (record old { store = c.calloc.new.self }) c.in-Calloc.name (calloc_call call.letter c.in-Calloc.elements c.in-Calloc.size) call.locked c.calloc.result refl
     (subst (IsCallFor c.args.op.now c.in-Calloc.name) (sym of.0) (is_calloc c.args.op.now c.in-Calloc.letter c.in-Calloc.name c.in-Calloc.elements c.in-Calloc.size c.in-Calloc.is)) of.1 known c.calloc.ensures.turn c.calloc.ensures.fits
 
-pub returns-in-Realloc-clause-acts : goal.returns-in-Realloc-clause-acts
-returns-in-Realloc-clause-acts g c =
+pub returns-in-Realloc-clause-affects : goal.returns-in-Realloc-clause-affects
+returns-in-Realloc-clause-affects g c =
     let old = c.args.self.now in
     let known : c.in-Realloc.name.0 < length old.store.blocks = subst (IsKnownAmong (length old.store.blocks)) c.in-Realloc.is c.requires.known in
     let call = c.call-call-in-Realloc.result in
     let of = call_is (λ v. realloc_call v c.in-Realloc.size) c.in-Realloc.letter (is_owner old.owner c.args.t) call c.call-call-in-Realloc.ensures in
-    sized_does c.args.t c.args.op.now old (record { store = c.realloc.new.self; owner = old.owner }) c.in-Realloc.name (realloc_call call.letter c.in-Realloc.size) call.locked c.realloc.result refl
+    sized_does c.args.t c.args.op.now old (record old { store = c.realloc.new.self }) c.in-Realloc.name (realloc_call call.letter c.in-Realloc.size) call.locked c.realloc.result refl
     (subst (IsCallFor c.args.op.now c.in-Realloc.name) (sym of.0) (is_realloc c.args.op.now c.in-Realloc.letter c.in-Realloc.name c.in-Realloc.size c.in-Realloc.is)) of.1 known c.realloc.ensures.turn c.realloc.ensures.fits
 
-pub returns-in-Free-clause-acts : goal.returns-in-Free-clause-acts
-returns-in-Free-clause-acts g c =
+pub returns-in-Free-clause-affects : goal.returns-in-Free-clause-affects
+returns-in-Free-clause-affects g c =
     let old = c.args.self.now in
-    let new : Holding = record { store = c.free-reply.new.self; owner = old.owner } in
+    let new : Holding = record old { store = c.free-reply.new.self } in
     let known : c.in-Free.name.0 < length old.store.blocks = subst (IsKnownAmong (length old.store.blocks)) c.in-Free.is c.requires.known in
-    subst (λ (a : Answer). Acts c.args.t c.args.op.now old new a.asked a.reply) (sym c.unasked.ensures)
-    (free_acts c.args.t c.args.op.now old new c.free-reply.result refl c.in-Free.letter c.in-Free.name c.call-call-in-Free.result c.in-Free.is c.call-call-in-Free.ensures known c.free-reply.ensures.turn)
+    subst (λ (a : Answer). Affects c.args.t c.args.op.now old new a.asked a.reply) (sym c.unasked.ensures)
+    (free_affects c.args.t c.args.op.now old new c.free-reply.result refl c.in-Free.letter c.in-Free.name c.call-call-in-Free.result c.in-Free.is c.call-call-in-Free.ensures known c.free-reply.ensures.turn)
+
+pub returns-in-Malloc-clause-known : goal.returns-in-Malloc-clause-known
+returns-in-Malloc-clause-known g c =
+    let call = c.call-call.result in
+    sized_known (length c.args.self.now.store.blocks) c.malloc.result c.in-Malloc.name.0 (sized_by (malloc_call call.letter c.in-Malloc.size) call.locked) c.args.self.now.store c.malloc.new.self c.malloc.ensures.turn
+
+pub returns-in-Calloc-clause-known : goal.returns-in-Calloc-clause-known
+returns-in-Calloc-clause-known g c =
+    let call = c.call-call-in-Calloc.result in
+    sized_known (length c.args.self.now.store.blocks) c.calloc.result c.in-Calloc.name.0 (sized_by (calloc_call call.letter c.in-Calloc.elements c.in-Calloc.size) call.locked) c.args.self.now.store c.calloc.new.self c.calloc.ensures.turn
+
+pub returns-in-Realloc-clause-known : goal.returns-in-Realloc-clause-known
+returns-in-Realloc-clause-known g c =
+    let call = c.call-call-in-Realloc.result in
+    sized_known (length c.args.self.now.store.blocks) c.realloc.result c.in-Realloc.name.0 (sized_by (realloc_call call.letter c.in-Realloc.size) call.locked) c.args.self.now.store c.realloc.new.self c.realloc.ensures.turn
+
+pub returns-in-Free-clause-known : goal.returns-in-Free-clause-known
+returns-in-Free-clause-known g c =
+    subst (λ (a : Answer). IsKnownReply (length c.args.self.now.store.blocks) a.reply) (sym c.unasked.ensures)
+    (textless (length c.args.self.now.store.blocks) c.free-reply.result _ c.free-reply.ensures.turn.answer)
 
 pub returns-in_ok-refuse-in-Refuse-clause-asks_arena : goal.returns-in_ok-refuse-in-Refuse-clause-asks_arena
 returns-in_ok-refuse-in-Refuse-clause-asks_arena g c =

@@ -1,12 +1,14 @@
-use Rattle.std.proofs.Common.{◌≡◌, ◌∙◌, List, true, false, refl, sym, ap, arith, subst}
+use Rattle.std.proofs.Common.{◌≡◌, ◌∙◌, ℕ, List, true, false, refl, sym, ap, arith, subst}
 use Rattle.mem_base.specs.declared.history.Entry.{Entry}
 use Rattle.mem_base.specs.declared.trace.Side.TheVariants as sides
 use Rattle.request_model.specs.Counts.{arena_asks, arena_refusals, raw_asks, raw_refusals}
 use Rattle.event_model.specs.Events.{is_ready}
+use Rattle.event_model.specs.Replies.{IsKnownReply}
 use Rattle.machine_core.specs.Stands.{Stands}
 use Rattle.machine_core.specs.View.{IsEvent, MachineView, Requests, state_of, tracks_of}
 use Rattle.machine_core.proofs.ActLemmas.{nothing_fails, on_err}
-use Rattle.machine_core.proofs.StepLemmas.{few_taken, here_is, within, stands_then, reply_is, is_next, requests_are, redone}
+use Rattle.machine_core.proofs.StepLemmas.{few_taken, here_is, within, stands_still, stands_then, reply_is}
+use Rattle.machine_core.proofs.StepLemmas.{is_next, popped, requests_are, redone}
 use Rattle.machine_core.proofs.machine.Machine.step.Goals as goal
 
 pub returns-in_err-push-clause-fails_arena : goal.returns-in_err-push-clause-fails_arena
@@ -39,12 +41,12 @@ invariant_of-self-in-Ok g c =
     let made = c.quiet_entry-in-Ok.ensures in
     let ready = subst (λ (m : MachineView). is_ready (tracks_of m) (state_of m) c.args.t ≡ true) (sym c.self.view_is) c.requires.ready in
     let sound = subst (λ (m : MachineView). (state_of m).faulted ≡ false) (sym c.self.view_is) c.requires.no_fault in
-    subst (λ (l : List Entry). Stands a.trace l (record { store = c.act.new.self.store; owner = c.settle-self-inside.new.owner }) c.settle-self-inside.new.progress c.settle-self-inside.result)
+    subst (λ (l : List Entry). Stands a.trace l (record c.act.new.self { owner = c.settle-self-inside.new.owner }) c.settle-self-inside.new.progress c.settle-self-inside.result)
     (sym (redone a.history.entries c.push.new.self c.set_last.new.self c.quiet_entry.result e c.in_ok-push.ensures.ok c.set_last.ensures))
     (stands_then a.trace a.history.entries a.held a.progress a.faulted c.args.t c.index-at.result.now c.in-Some.op.now
     c.self.invariant c.index-at.ensures (sym c.in-Some.ensures) e (ap (λ (x : Entry). x.track) made) c.act.new.self c.in-Ok.field-0.reply c.in-Ok.ensures.acts
     (ap (λ (x : Entry). x.at) made) ready (c.self.invariant.fault_is ∙ sound)
-    c.settle-self-inside.result c.settle-self-inside.ensures.fault c.settle-self-inside.new.owner c.settle-self-inside.ensures.owner c.settle-self-inside.new.progress c.settle-self-inside.ensures.done c.settle-self-inside.ensures.is)
+    c.settle-self-inside.result c.settle-self-inside.ensures.fault c.settle-self-inside.new.owner c.settle-self-inside.ensures.owner c.act.ensures.stacks c.settle-self-inside.new.progress c.settle-self-inside.ensures.done c.settle-self-inside.ensures.is)
 
 pub returns-in-Ok-clause-step : goal.returns-in-Ok-clause-step
 returns-in-Ok-clause-step g c =
@@ -62,7 +64,15 @@ returns-in-Ok-clause-step g c =
       grows = redone a.history.entries c.push.new.self c.set_last.new.self c.quiet_entry.result e c.in_ok-push.ensures.ok c.set_last.ensures;
       reply = reply_is a.trace a.history.entries a.held a.progress a.faulted c.args.t c.index-at.result.now c.in-Some.op.now
           c.self.invariant c.index-at.ensures (sym c.in-Some.ensures) e track c.act.new.self c.in-Ok.field-0.reply c.in-Ok.ensures.acts;
+      known = subst (λ (n : ℕ). IsKnownReply n c.in-Ok.field-0.reply) c.self.invariant.held.blocks.size c.in-Ok.ensures.known;
     })
+
+pub invariant_of-self-in-Err : goal.invariant_of-self-in-Err
+invariant_of-self-in-Err g c =
+    let a = c.self.inside in
+    let before = popped a.history.entries c.push.new.self c.pop-entry.new.self c.quiet_entry.result c.in_ok-push.ensures.ok c.pop-entry.ensures.rest in
+    subst (λ (l : List Entry). Stands a.trace l c.act.new.self a.progress a.faulted) (sym before)
+    (stands_still a.trace a.history.entries a.held c.act.new.self a.progress a.faulted c.in-Err.ensures.err c.self.invariant)
 
 pub returns-in-Ok-clause-asks_arena : goal.returns-in-Ok-clause-asks_arena
 returns-in-Ok-clause-asks_arena g c =

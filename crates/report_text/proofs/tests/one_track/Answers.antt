@@ -6,16 +6,19 @@ use Rattle.mem_base.specs.Texts.{unknown, with_text}
 use Rattle.mem_base.specs.declared.texts.TextId.{TextId}
 use Rattle.mem_base.specs.declared.trace.Letter.TheVariants.{Mem}
 use Rattle.mem_base.specs.declared.trace.Op.{Op}
-use Rattle.mem_base.specs.declared.trace.Op.TheVariants.{Heap, Free}
+use Rattle.mem_base.specs.declared.trace.Op.TheVariants.{Heap, Free, Mark, Origin, Traced}
 use Rattle.mem_base.specs.declared.trace.Trace.{Trace}
 use Rattle.mem_base.specs.declared.trace.Track.{Track}
 use Rattle.mem_base.specs.declared.limits.TheConstants.{MAX_OPS, MAX_TRACKS}
 use Rattle.trace_model.specs.Known.{IsKnown, IsKnownOp, IsKnownTrace, op_at, op_count}
-use Rattle.report_text.proofs.tests.heap_then_free.Goals as goal
+use Rattle.report_text.proofs.tests.one_track.Goals as goal
 
--- the track and its operations
+-- the operations, and their track
+abbrev ops_on : TextId → List Op
+ops_on x = Heap ∷ Free Mem x ∷ Mark 7 4096 20 ∷ Traced ∷ Origin x ∷ []
+
 abbrev track_of : TextId → TextId → Track
-track_of name x = record { name = name; ops = Heap ∷ Free Mem x ∷ [] }
+track_of name x = record { name = name; ops = ops_on x }
 
 name_is_known : (texts : List (List ℕ)) (name x : TextId) → name.0 < length texts → (t : ℕ) (track : Track)
     → slice_get (track_of name x ∷ []) t ≡ Some track → IsKnown texts track.name
@@ -29,7 +32,14 @@ op_is_known texts name x lt zero zero op e =
     let same : Heap ≡ op = cc in subst (λ (o : Op). IsKnownOp texts o × (0 < MAX_OPS)) same (tt, omega arith)
 op_is_known texts name x lt zero (suc zero) op e =
     let same : Free Mem x ≡ op = cc in subst (λ (o : Op). IsKnownOp texts o × (1 < MAX_OPS)) same (lt, omega arith)
-op_is_known texts name x lt zero (suc (suc at)) op e = absurd cc
+op_is_known texts name x lt zero (suc (suc zero)) op e =
+    let same : Mark 7 4096 20 ≡ op = cc in
+    subst (λ (o : Op). IsKnownOp texts o × (2 < MAX_OPS)) same (omega arith, omega arith)
+op_is_known texts name x lt zero (suc (suc (suc zero))) op e =
+    let same : Traced ≡ op = cc in subst (λ (o : Op). IsKnownOp texts o × (3 < MAX_OPS)) same (tt, omega arith)
+op_is_known texts name x lt zero (suc (suc (suc (suc zero)))) op e =
+    let same : Origin x ≡ op = cc in subst (λ (o : Op). IsKnownOp texts o × (4 < MAX_OPS)) same (lt, omega arith)
+op_is_known texts name x lt zero (suc (suc (suc (suc (suc at))))) op e = absurd cc
 op_is_known texts name x lt (suc t) at op e = absurd cc
 
 trace_is_known : (trace : Trace) (name x : TextId) → trace.tracks ≡ track_of name x ∷ []
@@ -48,14 +58,32 @@ returns-clause-known c =
     c.in_ok-t.ensures.table ∙ ap (λ ts. with_text ts (codes "t")) texts in
     let both : c.intern-2.new.self ≡ with_text (with_text (unknown ∷ []) (codes "t")) (codes "x") =
     c.in_ok-x.ensures.table ∙ ap (λ ts. with_text ts (codes "x")) first in
+    let all : c.intern-3.new.self ≡ with_text (with_text (with_text (unknown ∷ []) (codes "t")) (codes "x")) (codes "f.py") =
+    c.in_ok-intern.ensures.table ∙ ap (λ ts. with_text ts (codes "f.py")) both in
     let two : length c.intern.new.self ≡ 2 = ap length first in
     let three : length c.intern-2.new.self ≡ 3 = ap length both in
+    let four : length c.intern-3.new.self ≡ 4 = ap length all in
     let t = c.in_ok-t.t in
     let x = c.in_ok-x.x in
-    let of_t : t.0 < length c.intern.new.self = slice_get_within c.intern.new.self t.0 (codes "t") c.in_ok-t.ensures.number in
-    let of_x : x.0 < length c.intern-2.new.self = slice_get_within c.intern-2.new.self x.0 (codes "x") c.in_ok-x.ensures.number in
-    let ops : c.push-2.new.self ≡ Heap ∷ Free Mem x ∷ [] =
-    c.in_ok-push-2.ensures.ok ∙ ap (λ (l : List Op). l ++ Free Mem x ∷ [])
-    (c.in_ok-push.ensures.ok ∙ ap (λ (l : List Op). l ++ Heap ∷ []) c.new-ops.ensures) in
-    let with_ops : List Op → Track = λ (l : List Op). record { name = t; ops = l } in
-    trace_is_known _ t x (c.in_ok-push-3.ensures.ok ∙ (λ i. c.new-tracks.ensures i ++ with_ops (ops i) ∷ [])) (omega arith) of_x
+    let of_t : t.0 < length c.intern.new.self =
+    slice_get_within c.intern.new.self t.0 (codes "t") c.in_ok-t.ensures.number in
+    let of_x : x.0 < length c.intern-2.new.self =
+    slice_get_within c.intern-2.new.self x.0 (codes "x") c.in_ok-x.ensures.number in
+    let with_op : Op → List Op → List Op = λ (op : Op) (l : List Op). l ++ op ∷ [] in
+    let one : c.push.new.self ≡ Heap ∷ [] = c.in_ok-push.ensures.ok ∙ ap (with_op Heap) c.new-ops.ensures in
+    let twice : c.push-2.new.self ≡ Heap ∷ Free Mem x ∷ [] =
+    c.in_ok-push-2.ensures.ok ∙ ap (with_op (Free Mem x)) one in
+    let thrice : c.push-3.new.self ≡ Heap ∷ Free Mem x ∷ Mark 7 4096 20 ∷ [] =
+    c.in_ok-push-3.ensures.ok ∙ ap (with_op (Mark 7 4096 20)) twice in
+    let more : c.push-4.new.self ≡ Heap ∷ Free Mem x ∷ Mark 7 4096 20 ∷ Traced ∷ [] =
+    c.in_ok-push-4.ensures.ok ∙ ap (with_op Traced) thrice in
+    let ops : c.push-5.new.self ≡ ops_on x = c.in_ok-push-5.ensures.ok ∙ ap (with_op (Origin x)) more in
+    let track : List Op → Track = λ (l : List Op). record { name = t; ops = l } in
+    let tracks = c.in_ok-push-6.ensures.ok ∙ (λ i. c.new-tracks.ensures i ++ track (ops i) ∷ []) in
+    trace_is_known _ t x tracks (omega arith) (omega arith)
+
+pub returns-clause-texts : goal.returns-clause-texts
+returns-clause-texts c =
+    let first = c.in_ok-t.ensures.table ∙ ap (λ ts. with_text ts (codes "t")) c.in_ok-texts.ensures in
+    let both = c.in_ok-x.ensures.table ∙ ap (λ ts. with_text ts (codes "x")) first in
+    ap length (c.in_ok-intern.ensures.table ∙ ap (λ ts. with_text ts (codes "f.py")) both)
