@@ -1,5 +1,7 @@
 -- Numbers of frames, and of whole tracebacks, stand for the keys that rows count for.
-use Rattle.std.proofs.Common.{◌≡◌, ℕ, zero, suc, ◌-◌, ◌<◌, ◌≤◌, ◌⊎◌, ◌^◌, Bool, true, false, List, [], ◌∷◌, map, length, get_or, drop, slice_get, Option, Some, None, refl, sym, ap, subst, ◌∙◌, inl, inr, arith}
+use Rattle.std.proofs.Common.{◌≡◌, ℕ, zero, suc, ◌-◌, ◌<◌, ◌≤◌, ◌⊎◌, ◌^◌, Bool, true, false, List, [], ◌∷◌}
+use Rattle.std.proofs.Common.{map, length, get_or, drop, slice_get, Option, Some, None, refl, sym, ap, subst}
+use Rattle.std.proofs.Common.{◌∙◌, inl, inr, arith}
 use Rattle.std.specs.Prelude.{All}
 use Rattle.std.proofs.lemmas.List.{length-map}
 use Rattle.std.proofs.lemmas.List.Elements.{All-nil, All-cons}
@@ -12,7 +14,8 @@ use Rattle.frame_stack.specs.Tracebacks.{IsDistinct}
 use Rattle.snapshot_model.specs.Rules.{frames_seen}
 use Rattle.snapshot_model.specs.Occurrences.{Key, file_key, line_key, keys_of}
 use Rattle.snap_stats.specs.Plain.{plain_frame, plain_key}
-use Rattle.snap_stats.specs.Numbers.{frame_of, kind_of, key_at, AreNumbersOf, CountsBy, CountsFrames, CountsWhole, HasNoKeyTwice, IsKeyed}
+use Rattle.snap_stats.specs.Numbers.{frame_of, kind_of, key_at, AreNumbersOf, CountsBy, CountsFrames}
+use Rattle.snap_stats.specs.Numbers.{CountsWhole, HasNoKeyTwice, IsKeyed}
 use Rattle.snap_stats.proofs.Numbering.{within, read, all_at}
 
 module _ {X : Type 0} where

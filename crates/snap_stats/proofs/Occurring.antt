@@ -7,7 +7,8 @@ use Rattle.mem_base.specs.declared.trace.KeyKind.{KeyKind}
 use Rattle.mem_base.specs.declared.reply.Frame.{Frame}
 use Rattle.snapshot_model.specs.Occurrences.{Key, Occurrence, row_occurrences, occurrences}
 use Rattle.trace_table.specs.declared.snapshot.Row.{Row}
-use Rattle.snap_stats.specs.Numbers.{Numbered, key_at, plain_occurrence, each_of, numbered_of, CountsBy, group_for, whole_group}
+use Rattle.snap_stats.specs.Numbers.{Numbered, key_at, plain_occurrence, each_of, numbered_of, CountsBy}
+use Rattle.snap_stats.specs.Numbers.{group_for, whole_group}
 use Rattle.snap_stats.specs.Plain.{plain_row, plain_group}
 use Rattle.snap_stats.specs.declared.sums.NumberedGroup.{NumberedGroup}
 use Rattle.snapshot_model.specs.Stats.{PlainGroup}

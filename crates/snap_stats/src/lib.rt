@@ -17,6 +17,8 @@ mod numbers;
 mod order;
 mod stats;
 mod sums;
+#[cfg(test)]
+mod tests;
 
 pub use order::first_in_order;
 pub use stats::statistics;

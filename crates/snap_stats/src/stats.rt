@@ -45,7 +45,9 @@ fn statistics_by(
     requires few { length rows.now < 2 ^ 32 }
     requires traces { All (λ (r : Row). r.trace.0 < length counted.now) rows.now }
     requires keyed { IsKeyed texts.now keys.now counted.now }
-    ensures { IfOk result (λ gs. IsStats (map (plain_occurrence texts.now keys.now) (numbered_of counted.now rows.now)) (map (plain_group texts.now) gs)) }
+    ensures { IfOk result (λ gs. IsStats
+        (map (plain_occurrence texts.now keys.now) (numbered_of counted.now rows.now))
+        (map (plain_group texts.now) gs)) }
 {
     let sums = add_rows(alloc, rows, counted, keys.len())?;
     let mut groups = present(alloc, &sums)?;
@@ -64,7 +66,9 @@ fn statistics_by_frame(
     table: &Tracebacks,
 ) -> Result<List<Group>, AllocError>
     requires { IsHeld texts.now table.now s.now.rows }
-    ensures { IfOk result (λ gs. IsStats (occurrences (kind_of by_line) cumulative (plain_rows texts.now table.now s.now.rows)) (map (plain_group texts.now) gs)) }
+    ensures { IfOk result (λ gs. IsStats
+        (occurrences (kind_of by_line) cumulative (plain_rows texts.now table.now s.now.rows))
+        (map (plain_group texts.now) gs)) }
 {
     let _texts = texts.len();
     let (keys, counted) = count_frames(alloc, by_line, cumulative, table)?;
@@ -82,7 +86,9 @@ fn statistics_by_traceback(
     table: &Tracebacks,
 ) -> Result<List<Group>, AllocError>
     requires { IsHeld texts.now table.now s.now.rows }
-    ensures { IfOk result (λ gs. IsStats (occurrences kinds.Traceback cumulative (plain_rows texts.now table.now s.now.rows)) (map (plain_group texts.now) gs)) }
+    ensures { IfOk result (λ gs. IsStats
+        (occurrences kinds.Traceback cumulative (plain_rows texts.now table.now s.now.rows))
+        (map (plain_group texts.now) gs)) }
 {
     let _texts = texts.len();
     let counted = count_whole(alloc, table.len())?;
@@ -100,7 +106,9 @@ pub fn statistics(
     table: &Tracebacks,
 ) -> Result<List<Group>, AllocError>
     requires { IsHeld texts.now table.now s.now.rows }
-    ensures { IfOk result (λ gs. IsStats (occurrences key cumulative (plain_rows texts.now table.now s.now.rows)) (map (plain_group texts.now) gs)) }
+    ensures { IfOk result (λ gs. IsStats
+        (occurrences key cumulative (plain_rows texts.now table.now s.now.rows))
+        (map (plain_group texts.now) gs)) }
 {
     match key {
         KeyKind::Filename => statistics_by_frame(alloc, s, false, cumulative, texts, table),

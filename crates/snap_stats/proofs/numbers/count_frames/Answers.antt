@@ -1,10 +1,12 @@
-use Rattle.std.proofs.Common.{◌≡◌, ◌≢◌, ◌<◌, ◌++◌, ◌∷◌, [], List, ℕ, length, ◌+◌, ◌∙◌, inl, inr, slice_get, Some, get_or, sym, ap, subst, arith}
+use Rattle.std.proofs.Common.{◌≡◌, ◌≢◌, ◌<◌, ◌++◌, ◌∷◌, [], List, ℕ, length, ◌+◌, ◌∙◌, inl, inr, slice_get}
+use Rattle.std.proofs.Common.{Some, get_or, sym, ap, subst, arith}
 use Rattle.std.proofs.lemmas.Bool.Decides.{eqb_tells}
 use Rattle.mem_base.specs.declared.reply.Frame.{Frame}
 use Rattle.frame_stack.specs.Callers.{AreAmong}
 use Rattle.snapshot_model.specs.Rules.{frames_seen}
 use Rattle.snap_stats.specs.Numbers.{AreNumbersOf}
-use Rattle.snap_stats.proofs.Numbering.{still_numbers, length_push, pushed_last, pushed_before, within, read, all_at, among_seen}
+use Rattle.snap_stats.proofs.Numbering.{still_numbers, length_push, pushed_last, pushed_before, within, read}
+use Rattle.snap_stats.proofs.Numbering.{all_at, among_seen}
 use Rattle.snap_stats.proofs.numbers.count_frames.Goals as goal
 
 pub loop-at-preserved : goal.loop-at-preserved

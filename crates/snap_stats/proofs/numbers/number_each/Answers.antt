@@ -1,4 +1,5 @@
-use Rattle.std.proofs.Common.{◌≡◌, ◌<◌, ◌++◌, ◌∷◌, [], List, ℕ, length, ◌+◌, ◌∙◌, take, slice_get, Some, get_or, sym, ap, subst, arith}
+use Rattle.std.proofs.Common.{◌≡◌, ◌<◌, ◌++◌, ◌∷◌, [], List, ℕ, length, ◌+◌, ◌∙◌, take, slice_get, Some}
+use Rattle.std.proofs.Common.{get_or, sym, ap, subst, arith}
 use Rattle.mem_base.specs.declared.reply.Frame.{Frame}
 use Rattle.frame_stack.specs.Tracebacks.{unknown_frame}
 use Rattle.frame_stack.specs.Callers.{AreAmong}
