@@ -17,7 +17,7 @@ abbrev pub frame_fits : Option ℕ → List ℕ → PlainFrame → Bool
 frame_fits line pattern frame = matches pattern frame.file && is_or_none line frame.line
 
 -- the frames that a rule looks at: all that are kept, or the most recent one
-abbrev pub frames_seen : Bool → List PlainFrame → List PlainFrame
+abbrev pub frames_seen : {F : Type 0} → Bool → List F → List F
 frames_seen true frames = frames
 frames_seen false frames = latest 1 frames
 

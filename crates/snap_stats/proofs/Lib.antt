@@ -1,0 +1,7 @@
+mod Adding
+mod Comparing
+mod Fronts
+mod Grouping
+mod Keying
+mod Numbering
+mod Occurring
