@@ -244,7 +244,7 @@ class Recorded(unittest.TestCase):
         self.assertEqual(trace.count("\ntrack "), 4)
         self.assertNotRegex(report, " = (busy|held|not_held|absent)\n")
 
-    @needs(TRACES and GROWS, "statistics beside tracemalloc's own: the program does not trace")
+    @needs(TRACES and GROWS, "statistics beside tracemalloc's own: the program makes no statistics")
     def test_statistics_are_those_of_tracemalloc_in_the_same_process(self):
         trace, printed = record_text(BESIDE_TRACEMALLOC, "--frames", "1")
         status, report = replay(trace)
