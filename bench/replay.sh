@@ -5,7 +5,7 @@
 # as often a request of one of the sources is refused. Then come traces of a live heap that grows to 15, 30 and 60 arenas
 # and to 25, 50 and 100 MiB of raw blocks, and empties in a random order. Then come traces of as many operations each
 # with 100, 10,000 and 100,000 blocks live, without tracing and while tracing, and one of 130,943 blocks, each of which has
-# 256 frames of its own.
+# 256 frames of its own. Last come 341 snapshots, filters and statistics each over 12,500, 25,000 and 50,000 traces.
 # Usage: bench/replay.sh (the program is proved and built first where it is not)
 set -eu
 cd "$(dirname "$0")/.."
@@ -71,6 +71,26 @@ deep() {
     }'
 }
 
+# A trace of so many blocks, allocated from 997 lines of 20 files, and then of 1,023 operations: each snapshot is filtered by
+# two rules, and what was kept or all of it is added up by file, by line or by traceback in turn, cumulative or not.
+snapshots() {
+    awk -v live="$1" 'BEGIN {
+        print "pymtrace 1"; print "track t"; print "start 5"; print "call main.py 1"
+        for (i = 0; i < live; i++) {
+            if (i % 250 == 0) { if (i > 0) print "return"; print "call pkg/module_" i % 20 ".py " i / 250 }
+            if (i % 10 == 0) print "line " i % 997
+            print "malloc r b" i " " i % 97
+        }
+        split("filename lineno traceback", key, " ")
+        for (i = 0; i < 341; i++) {
+            k = key[1 + i % 3]
+            print "snapshot all"
+            print "keep part all in,all,*,*,pkg/*_1?.py ex,top,7,*,*"
+            print "stats " (i % 4 < 2 ? "all" : "part") " " k " " (k != "traceback" && i % 2 ? "cumulative" : "plain") " 10"
+        }
+    }'
+}
+
 # Runs the replay of a trace, and prints its time in microseconds and the most memory that it held in KiB.
 timed() {
     python3 - "$1" "$2" <<'PYTHON'
@@ -126,3 +146,10 @@ before=""
 deep > "$work/trace"
 printf '256 frames each: '
 measure 262143
+
+before=""
+for live in 12500 25000 50000; do
+    snapshots "$live" > "$work/trace"
+    printf '%s traces, 341 snapshots, filters and statistics: ' "$live"
+    measure "$(($(wc -l < "$work/trace") - 2))"
+done

@@ -22,7 +22,8 @@ use Rattle.event_model.specs.Replies.{PlainReply, ok, busy, outside, bytes}
 abbrev pub Placing : (Layout → Type 0) → Layout → Grant → Request → Type 0
 Placing P l arena r = (m : ℕ) → r ≡ FromPools m → is_small m ≡ true → P (place l (class_of m) arena).layout
 
-room_holds : (P : Layout → Type 0) (l : Layout) (r : Request) (arena : Grant) (raw : Ask) → P l → Placing P l arena r → P (room_for l r arena raw).layout
+room_holds : (P : Layout → Type 0) (l : Layout) (r : Request) (arena : Grant) (raw : Ask) → P l → Placing P l arena r
+    → P (room_for l r arena raw).layout
 room_holds P l (FromPools m) arena raw here placed = by (is_small m) refl
   where
     by : (b : Bool) → is_small m ≡ b
@@ -52,7 +53,8 @@ decision_holds P call arena raw l asks here placed =
     let room = room_for l (request call.letter call.size) arena raw in
     new_holds P call room.home room.layout (room_holds P l (request call.letter call.size) arena raw here placed)
 
-move_holds : (P : Layout → Type 0) (call : SizedCall) (block : Block) (home : Option Home) (l : Layout) → P l → Unplacing P → P (move_block call block home l).layout
+move_holds : (P : Layout → Type 0) (call : SizedCall) (block : Block) (home : Option Home) (l : Layout) → P l
+    → Unplacing P → P (move_block call block home l).layout
 move_holds P call block None l here unplaced = here
 move_holds P call block (Some home) l here unplaced = without_holds P l block.home here unplaced
 
@@ -68,7 +70,8 @@ change_holds P call arena raw l block too_great here placed unplaced = here
 change_holds P call arena raw l block (faults found) here placed unplaced = here
 change_holds P call arena raw l block asks here placed unplaced = by (stays_in_place block (need call.size)) placed
   where
-    by : (b : Bool) → Placing P l arena (cond b NoRequest (request_to_move call block)) → P (change_by call arena raw l block b).layout
+    by : (b : Bool) → Placing P l arena (cond b NoRequest (request_to_move call block))
+        → P (change_by call arena raw l block b).layout
     by true placed = here
     by false placed =
         let room = room_for l (request_to_move call block) arena raw in
@@ -76,7 +79,8 @@ change_holds P call arena raw l block asks here placed unplaced = by (stays_in_p
 
 pub sized_holds : (P : Layout → Type 0) (call : SizedCall) (locked : Bool) (arena : Grant) (raw : Ask) (l : Layout) (o : Option Block)
     → P l → Placing P l arena (sized_request call locked o) → Unplacing P → P (sized_turn call locked arena raw l o).layout
-sized_holds P call locked arena raw l None here placed unplaced = decision_holds P call arena raw l (came_to call locked None) here placed
+sized_holds P call locked arena raw l None here placed unplaced =
+    decision_holds P call arena raw l (came_to call locked None) here placed
 sized_holds P call locked arena raw l (Some block) here placed unplaced = by call.goes_on placed
   where
     by : (b : Bool) → Placing P l arena (cond b (request_to_change call block (came_to call locked (Some block))) NoRequest)
@@ -84,7 +88,8 @@ sized_holds P call locked arena raw l (Some block) here placed unplaced = by cal
     by true placed = change_holds P call arena raw l block (came_to call locked (Some block)) here placed unplaced
     by false placed = here
 
-pub unless_holds : (P : Layout → Type 0) (o : Option Fault) (l : Layout) (now : Option Block) → P l → Unplacing P → P (free_unless o l now).layout
+pub unless_holds : (P : Layout → Type 0) (o : Option Fault) (l : Layout) (now : Option Block) → P l → Unplacing P
+    → P (free_unless o l now).layout
 unless_holds P None l None here unplaced = here
 unless_holds P None l (Some block) here unplaced = without_holds P l block.home here unplaced
 unless_holds P (Some found) l None here unplaced = here
@@ -94,12 +99,14 @@ either_holds : (P : Layout → Type 0) (l : Layout) (x y : Option Block) (p q : 
 either_holds P l x y p q true here = here
 either_holds P l x y p q false here = here
 
-pub poke_holds : (P : Layout → Type 0) (offset : _) (new : List ℕ) (l : Layout) (o : Option Block) → P l → P (poke_turn offset new l o).layout
+pub poke_holds : (P : Layout → Type 0) (offset : _) (new : List ℕ) (l : Layout) (o : Option Block) → P l
+    → P (poke_turn offset new l o).layout
 poke_holds P offset new l None here = here
 poke_holds P offset new l (Some block) here =
     either_holds P l (Some (record block { body = poked block.body offset new })) (Some block) ok outside (reaches block.body offset (length new)) here
 
-pub peek_holds : (P : Layout → Type 0) (offset : _) (count : ℕ) (l : Layout) (o : Option Block) → P l → P (peek_turn offset count l o).layout
+pub peek_holds : (P : Layout → Type 0) (offset : _) (count : ℕ) (l : Layout) (o : Option Block) → P l
+    → P (peek_turn offset count l o).layout
 peek_holds P offset count l None here = here
 peek_holds P offset count l (Some block) here =
     either_holds P l (Some block) (Some block) (bytes (peeked block.body offset count)) outside (reaches block.body offset count) here

@@ -9,6 +9,7 @@ use Rattle.std.proofs.lemmas.List.Sums.{sum_by-cons}
 use Rattle.mem_base.specs.declared.history.Entry.{Entry}
 use Rattle.trace_model.specs.Plain.{Action, PlainTrack}
 use Rattle.trace_model.specs.Spelling.{action_count}
+use Rattle.event_model.specs.Deeds.{deed_of}
 use Rattle.event_model.specs.Effects.{act}
 use Rattle.event_model.specs.Events.{event, event_of, settle, advance, next_action, may_do, ops_left, left_in}
 use Rattle.event_model.specs.History.{opening, state_after, last_state, IsNext, IsLegalFrom, IsLegal}
@@ -18,7 +19,8 @@ use Rattle.event_model.proofs.HistoryLaws.{state_push}
 
 -- ---- as many tracks as there were
 
-settle_length : (tracks : List PlainTrack) (t : ℕ) (s : State) (r : Held × PlainReply) → length (settle tracks t s r).done ≡ length s.done
+settle_length : (tracks : List PlainTrack) (t : ℕ) (s : State) (r : Held × PlainReply)
+    → length (settle tracks t s r).done ≡ length s.done
 settle_length tracks t s r = by (is_fault r.1)
   where
     by : (b : Bool) → length (cond b (record s { faulted = true }) (advance tracks t s r.0)).done ≡ length s.done
@@ -31,7 +33,7 @@ event_length tracks s e = by (next_action tracks s e.track)
   where
     by : (o : Option Action) → length (event_of tracks s e.track e.arena e.raw o).0.done ≡ length s.done
     by None = refl
-    by (Some a) = settle_length tracks e.track s (act s.held e.track a e.arena e.raw)
+    by (Some a) = settle_length tracks e.track s (act s.held e.track (deed_of a) e.arena e.raw)
 
 after_length : (tracks : List PlainTrack) (s : State) (es : List Entry) → length (state_after tracks s es).done ≡ length s.done
 after_length tracks s [] = refl
@@ -49,7 +51,8 @@ done_length tracks es = after_length tracks (opening tracks) es ∙ map_length t
 
 -- ---- one operation less
 
-ops_less : (ts : List PlainTrack) (ds : List ℕ) (t : ℕ) (track : PlainTrack) → slice_get ts t ≡ Some track → t < length ds → slice_index ds t < length track.actions
+ops_less : (ts : List PlainTrack) (ds : List ℕ) (t : ℕ) (track : PlainTrack) → slice_get ts t ≡ Some track
+    → t < length ds → slice_index ds t < length track.actions
     → ops_left ts (set ds t (slice_index ds t + 1)) + 1 ≡ ops_left ts ds
 ops_less [] ds t track is lt some = absurd cc
 ops_less (x ∷ ts) [] t track is lt some = absurd (omega arith)
@@ -63,7 +66,9 @@ pub waits : (owner : Option ℕ) (t : ℕ) (o : Option Action) → may_do owner 
 waits owner t None h = absurd (true≢false (sym h))
 waits owner t (Some a) h = (a, refl)
 
-pub at_track : (o : Option PlainTrack) (d : ℕ) (a : Action) → option_and_then (λ track. slice_get track.actions d) o ≡ Some a → (track : PlainTrack) × (o ≡ Some track) × (slice_get track.actions d ≡ Some a)
+pub at_track : (o : Option PlainTrack) (d : ℕ) (a : Action)
+    → option_and_then (λ track. slice_get track.actions d) o ≡ Some a
+    → (track : PlainTrack) × (o ≡ Some track) × (slice_get track.actions d ≡ Some a)
 at_track None d a h = absurd cc
 at_track (Some track) d a h = (track, refl, h)
 
@@ -72,7 +77,8 @@ abbrev weight : Bool → ℕ
 weight b = cond b 0 1
 
 -- what is left where one operation is done, or a fault comes
-less : (tracks : List PlainTrack) (s : State) (t : ℕ) (a : Action) (r : Held × PlainReply) → s.faulted ≡ false → length s.done ≡ length tracks → next_action tracks s t ≡ Some a
+less : (tracks : List PlainTrack) (s : State) (t : ℕ) (a : Action) (r : Held × PlainReply) → s.faulted ≡ false
+    → length s.done ≡ length tracks → next_action tracks s t ≡ Some a
     → left_in tracks (settle tracks t s r) < left_in tracks s
 less tracks s t a r sound same is =
     let there = at_track (slice_get tracks t) (slice_index s.done t) a is in
@@ -81,28 +87,32 @@ less tracks s t a r sound same is =
     let before : weight s.faulted ≡ 1 = ap weight sound in
     by (is_fault r.1) before (ops_less tracks s.done t there.0 there.1 within some)
   where
-    by : (b : Bool) → weight s.faulted ≡ 1 → ops_left tracks (set s.done t (slice_index s.done t + 1)) + 1 ≡ ops_left tracks s.done
+    by : (b : Bool) → weight s.faulted ≡ 1
+        → ops_left tracks (set s.done t (slice_index s.done t + 1)) + 1 ≡ ops_left tracks s.done
         → left_in tracks (cond b (record s { faulted = true }) (advance tracks t s r.0)) < left_in tracks s
     by true before fewer = omega (arith, before)
     by false before fewer = omega (arith, before, fewer)
 
-next_less : (tracks : List PlainTrack) (s : State) (e : Entry) → length s.done ≡ length tracks → IsNext tracks s e → left_in tracks (event tracks s e).0 < left_in tracks s
+next_less : (tracks : List PlainTrack) (s : State) (e : Entry) → length s.done ≡ length tracks → IsNext tracks s e
+    → left_in tracks (event tracks s e).0 < left_in tracks s
 unfolding event
 next_less tracks s e same next =
     let w = waits s.held.owner e.track (next_action tracks s e.track) next.ready in
-    let r = act s.held e.track w.0 e.arena e.raw in
+    let r = act s.held e.track (deed_of w.0) e.arena e.raw in
     let then_is : (event tracks s e).0 ≡ settle tracks e.track s r =
     ap (λ (o : Option Action). (event_of tracks s e.track e.arena e.raw o).0) w.1 in
     subst (λ (x : State). left_in tracks x < left_in tracks s) (sym then_is)
     (less tracks s e.track w.0 r next.no_fault same w.1)
 
-pub leaves_less : (tracks : List PlainTrack) (es : List Entry) (e : Entry) → IsNext tracks (last_state tracks es) e → left_in tracks (last_state tracks (es ++ e ∷ [])) < left_in tracks (last_state tracks es)
+pub leaves_less : (tracks : List PlainTrack) (es : List Entry) (e : Entry) → IsNext tracks (last_state tracks es) e
+    → left_in tracks (last_state tracks (es ++ e ∷ [])) < left_in tracks (last_state tracks es)
 leaves_less tracks es e next =
     subst (λ (x : State). left_in tracks x < left_in tracks (last_state tracks es)) (sym (state_push tracks (opening tracks) es e)) (next_less tracks (last_state tracks es) e (done_length tracks es) next)
 
 -- ---- a history is no longer than there are operations, but for a fault
 
-short_from : (tracks : List PlainTrack) (s : State) (es : List Entry) → length s.done ≡ length tracks → IsLegalFrom tracks s es → length es ≤ left_in tracks s
+short_from : (tracks : List PlainTrack) (s : State) (es : List Entry) → length s.done ≡ length tracks
+    → IsLegalFrom tracks s es → length es ≤ left_in tracks s
 short_from tracks s [] same legal = omega arith
 short_from tracks s (e ∷ es) same legal =
     omega (arith, next_less tracks s e same legal.0, short_from tracks (event tracks s e).0 es (event_length tracks s e ∙ same) legal.1)

@@ -1,6 +1,6 @@
-mod ActLaws
 pub mod CallerLemmas
-mod EffectLaws
+mod DeedLaws
+mod EventLaws
 mod FaultLaws
 mod HistoryLaws
 mod KeepLaws
@@ -10,6 +10,7 @@ mod NameLaws
 mod NullLaws
 mod PlanLaws
 mod ScheduleLaws
+mod SnapshotLaws
 mod SoundLaws
 mod TakenLaws
 mod TraceLaws

@@ -9,8 +9,11 @@ use Rattle.mem_base.specs.declared.history.Ask.{Ask}
 use Rattle.mem_base.specs.declared.history.Ask.TheVariants as ask
 use Rattle.mem_base.specs.declared.reply.Fault.{Fault}
 use Rattle.mem_base.specs.declared.reply.Fault.TheVariants.{Unlocked, BadId, BadLead, BadTail}
+use Rattle.mem_base.specs.Name.{Name}
+use Rattle.mem_base.specs.declared.trace.KeyKind.{KeyKind}
 use Rattle.mem_base.specs.declared.trace.Letter.{Letter}
 use Rattle.mem_base.specs.declared.trace.Letter.TheVariants.{Raw, Mem, Obj}
+use Rattle.mem_base.specs.declared.trace.Rule.{Rule}
 use Rattle.block_model.specs.Block.{Body, reaches, peeked, poked}
 use Rattle.layout_model.specs.Asks.{Request, FitsRequest, is_refused, raw_was_asked}
 use Rattle.layout_model.specs.Asks.Request.{FromPools, FromRaw, NoRequest}
@@ -23,6 +26,7 @@ use Rattle.request_model.specs.Decision.{request_after, max_size, max_data}
 use Rattle.request_model.proofs.CallerLemmas.{Decides, over_all, faulty, over_data, within, decides}
 use Rattle.tracing_model.specs.Traces.{TraceOf}
 use Rattle.tracing_model.specs.Tracing.{Tracing}
+use Rattle.snapshot_model.specs.Snapshots.{PlainSnapshot}
 use Rattle.event_model.specs.Blocks.{Home, Block, is_pooled}
 use Rattle.event_model.specs.Lock.{acquire_turn, release_turn}
 use Rattle.event_model.specs.Memory.{Turn, turn_to, Room, raw_home, pool_home, small_room, room_for}
@@ -31,6 +35,7 @@ use Rattle.event_model.specs.Memory.{new_block_turn, stays_in_place, request_to_
 use Rattle.event_model.specs.Memory.{sized_turn, request_to_change, sized_request, free_unless, poke_turn}
 use Rattle.event_model.specs.Memory.{peek_turn}
 use Rattle.event_model.specs.Replies.{PlainReply, ok, null, busy, held, not_held, outside, bytes, fault_in, is_fault}
+use Rattle.event_model.specs.Snapshots.{Snapshots, keep_from, snapshot_turn, stats_in}
 use Rattle.event_model.specs.State.{is_owner}
 use Rattle.event_model.specs.Tracing.{mark_answer, trace_answer}
 use Rattle.event_model.proofs.LayoutLaws.{change_by}
@@ -86,6 +91,20 @@ pub trace_null : (o : Option TraceOf) → trace_answer o ≡ null → ⊥
 trace_null None h = absurd cc
 trace_null (Some t) h = absurd cc
 
+pub snapshot_null : (tracing : Option Tracing) (name : Name) (all : Snapshots) → (snapshot_turn tracing name all).1 ≡ null → ⊥
+snapshot_null None name all h = absurd cc
+snapshot_null (Some t) name all h = absurd cc
+
+pub keep_null : (new : Name) (rules : List Rule) (o : Option PlainSnapshot) (all : Snapshots)
+    → (keep_from new rules o all).1 ≡ null → ⊥
+keep_null new rules None all h = absurd cc
+keep_null new rules (Some s) all h = absurd cc
+
+pub stats_null : (key : KeyKind) (cumulative : Bool) (most : ℕ) (o : Option PlainSnapshot)
+    → stats_in key cumulative most o ≡ null → ⊥
+stats_null key cumulative most None h = absurd cc
+stats_null key cumulative most (Some s) h = absurd cc
+
 -- ---- a request without room
 
 -- a small request is of 1 to 512 bytes
@@ -122,7 +141,8 @@ room_by l m arena raw b =
     cond b (small_room (place l (class_of m) arena) raw) (record { home = raw_home raw; layout = l })
 
 -- with answers that fit, a request that finds no room was refused by the raw source
-no_room_refused : (l : Layout) (r : Request) (arena : Grant) (raw : Ask) → (r ≡ NoRequest → ⊥) → FitsRequest l r arena raw → (room_for l r arena raw).home ≡ None → raw ≡ ask.Refused
+no_room_refused : (l : Layout) (r : Request) (arena : Grant) (raw : Ask) → (r ≡ NoRequest → ⊥)
+    → FitsRequest l r arena raw → (room_for l r arena raw).home ≡ None → raw ≡ ask.Refused
 no_room_refused l (FromPools m) arena raw some fits none = by (is_small m) refl none
   where
     by : (b : Bool) → is_small m ≡ b → (room_by l m arena raw b).home ≡ None → raw ≡ ask.Refused
@@ -136,7 +156,8 @@ no_room_refused l (FromRaw m) arena raw some fits none = asked_refused raw fits.
 no_room_refused l NoRequest arena raw some fits none = absurd (some refl)
 
 -- with answers that fit, a request that the raw source refused finds no room
-refused_no_room : (l : Layout) (r : Request) (arena : Grant) (raw : Ask) → FitsRequest l r arena raw → raw ≡ ask.Refused → (room_for l r arena raw).home ≡ None
+refused_no_room : (l : Layout) (r : Request) (arena : Grant) (raw : Ask) → FitsRequest l r arena raw
+    → raw ≡ ask.Refused → (room_for l r arena raw).home ≡ None
 refused_no_room l (FromPools m) arena raw fits refused = by (is_small m) refl
   where
     by : (b : Bool) → is_small m ≡ b → (room_by l m arena raw b).home ≡ None
@@ -165,7 +186,8 @@ null_no_room : (call : SizedCall) (home : Option Home) (l : Layout) → (new_blo
 null_no_room call None l h = refl
 null_no_room call (Some home) l h = absurd cc
 
-null_no_move : (call : SizedCall) (block : Block) (home : Option Home) (l : Layout) → (move_block call block home l).answer ≡ null → home ≡ None
+null_no_move : (call : SizedCall) (block : Block) (home : Option Home) (l : Layout)
+    → (move_block call block home l).answer ≡ null → home ≡ None
 null_no_move call block None l h = refl
 null_no_move call block (Some home) l h = absurd cc
 
@@ -175,8 +197,10 @@ null_no_move call block (Some home) l h = absurd cc
 abbrev pub IsWhy : SizedCall → Option Fault → Ask → Type 0
 IsWhy call found raw = (max_size < call.size) ⊎ ((max_data < call.size) × (found ≡ None)) ⊎ (raw ≡ ask.Refused)
 
-new_why : (call : SizedCall) (found : Option Fault) (arena : Grant) (raw : Ask) (l : Layout) (d : Decision) → Decides call.size found d
-    → FitsRequest l (request_after call.letter call.size d) arena raw → (new_block_turn call arena raw l d).answer ≡ null → IsWhy call found raw
+new_why : (call : SizedCall) (found : Option Fault) (arena : Grant) (raw : Ask) (l : Layout) (d : Decision)
+    → Decides call.size found d
+    → FitsRequest l (request_after call.letter call.size d) arena raw
+    → (new_block_turn call arena raw l d).answer ≡ null → IsWhy call found raw
 new_why call found arena raw l too_great (over_all great) fits h = inl great
 new_why call found arena raw l too_great (over_data great none) fits h = inr (inl (great, none))
 new_why call found arena raw l (faults _) (faulty which small some) fits h = absurd cc
@@ -184,20 +208,25 @@ new_why call found arena raw l asks (within small none) fits h =
     let room = room_for l (request call.letter call.size) arena raw in
     inr (inr (no_room_refused l (request call.letter call.size) arena raw (request_asks call.letter call.size) fits (null_no_room call room.home room.layout h)))
 
-change_why : (call : SizedCall) (found : Option Fault) (arena : Grant) (raw : Ask) (l : Layout) (block : Block) (d : Decision) → Decides call.size found d
-    → FitsRequest l (request_to_change call block d) arena raw → (change_turn call arena raw l block d).answer ≡ null → IsWhy call found raw
+change_why : (call : SizedCall) (found : Option Fault) (arena : Grant) (raw : Ask) (l : Layout) (block : Block) (d : Decision)
+    → Decides call.size found d
+    → FitsRequest l (request_to_change call block d) arena raw → (change_turn call arena raw l block d).answer ≡ null
+    → IsWhy call found raw
 change_why call found arena raw l block too_great (over_all great) fits h = inl great
 change_why call found arena raw l block too_great (over_data great none) fits h = inr (inl (great, none))
-change_why call found arena raw l block (faults _) (faulty which small some) fits h = absurd (true≢false (sym (fault_in_is block.body which) ∙ ap is_fault h))
+change_why call found arena raw l block (faults _) (faulty which small some) fits h =
+    absurd (true≢false (sym (fault_in_is block.body which) ∙ ap is_fault h))
 change_why call found arena raw l block asks (within small none) fits h = by (stays_in_place block (need call.size)) fits h
   where
-    by : (b : Bool) → FitsRequest l (cond b NoRequest (request_to_move call block)) arena raw → (change_by call arena raw l block b).answer ≡ null → IsWhy call found raw
+    by : (b : Bool) → FitsRequest l (cond b NoRequest (request_to_move call block)) arena raw
+        → (change_by call arena raw l block b).answer ≡ null → IsWhy call found raw
     by true fits h = absurd cc
     by false fits h =
         let room = room_for l (request_to_move call block) arena raw in
         inr (inr (no_room_refused l (request_to_move call block) arena raw (move_asks call block) fits (null_no_move call block room.home room.layout h)))
 
-pub sized_why : (call : SizedCall) (locked : Bool) (arena : Grant) (raw : Ask) (l : Layout) (o : Option Block) → FitsRequest l (sized_request call locked o) arena raw
+pub sized_why : (call : SizedCall) (locked : Bool) (arena : Grant) (raw : Ask) (l : Layout) (o : Option Block)
+    → FitsRequest l (sized_request call locked o) arena raw
     → (sized_turn call locked arena raw l o).answer ≡ null → (is_busy call o ≡ false) × IsWhy call (fault_of call locked o) raw
 sized_why call locked arena raw l None fits h =
     (refl, new_why call (fault_of call locked None) arena raw l (came_to call locked None) (decides call.letter call.size locked None) fits h)
@@ -206,7 +235,8 @@ sized_why call locked arena raw l (Some block) fits h = by call.goes_on fits h
     d : Decision
     d = came_to call locked (Some block)
 
-    by : (b : Bool) → FitsRequest l (cond b (request_to_change call block d) NoRequest) arena raw → (cond b (change_turn call arena raw l block d) (turn_to (Some block) l busy)).answer ≡ null
+    by : (b : Bool) → FitsRequest l (cond b (request_to_change call block d) NoRequest) arena raw
+        → (cond b (change_turn call arena raw l block d) (turn_to (Some block) l busy)).answer ≡ null
         → (not b ≡ false) × IsWhy call (fault_of call locked (Some block)) raw
     by true fits h =
         (refl, change_why call (fault_of call locked (Some block)) arena raw l block d (decides call.letter call.size locked (finding_of call.letter (Some block))) fits h)
@@ -215,7 +245,8 @@ sized_why call locked arena raw l (Some block) fits h = by call.goes_on fits h
 -- ---- the other way
 
 -- a fault, where the size is too great or the raw source refused, has come before either
-faulty_not : (call : SizedCall) (found : Option Fault) (raw : Ask) (which : Fault) → call.size ≤ max_size → found ≡ Some which → raw_was_asked raw ≡ false → IsWhy call found raw → ⊥
+faulty_not : (call : SizedCall) (found : Option Fault) (raw : Ask) (which : Fault) → call.size ≤ max_size
+    → found ≡ Some which → raw_was_asked raw ≡ false → IsWhy call found raw → ⊥
 faulty_not call found raw which small some unasked why = elim why [
   | inl great ↦ absurd (omega arith)
   | inr rest ↦
@@ -225,47 +256,59 @@ faulty_not call found raw which small some unasked why = elim why [
       ]
 ]
 
-within_why : (call : SizedCall) (found : Option Fault) (raw : Ask) → call.size ≤ max_data → IsWhy call found raw → raw ≡ ask.Refused
+within_why : (call : SizedCall) (found : Option Fault) (raw : Ask) → call.size ≤ max_data → IsWhy call found raw
+    → raw ≡ ask.Refused
 within_why call found raw small why = elim why [
   | inl great ↦ absurd (omega arith)
   | inr rest ↦ elim rest [ inl greater ↦ absurd (omega (arith, greater.0)) | inr refused ↦ refused ]
 ]
 
-new_null : (call : SizedCall) (found : Option Fault) (arena : Grant) (raw : Ask) (l : Layout) (d : Decision) → Decides call.size found d
-    → FitsRequest l (request_after call.letter call.size d) arena raw → IsWhy call found raw → (new_block_turn call arena raw l d).answer ≡ null
+new_null : (call : SizedCall) (found : Option Fault) (arena : Grant) (raw : Ask) (l : Layout) (d : Decision)
+    → Decides call.size found d
+    → FitsRequest l (request_after call.letter call.size d) arena raw → IsWhy call found raw
+    → (new_block_turn call arena raw l d).answer ≡ null
 new_null call found arena raw l too_great (over_all great) fits why = refl
 new_null call found arena raw l too_great (over_data great none) fits why = refl
-new_null call found arena raw l (faults _) (faulty which small some) fits why = absurd (faulty_not call found raw which small some fits.raw_asked why)
+new_null call found arena raw l (faults _) (faulty which small some) fits why =
+    absurd (faulty_not call found raw which small some fits.raw_asked why)
 new_null call found arena raw l asks (within small none) fits why =
     let r = request call.letter call.size in
     let layout = (room_for l r arena raw).layout in
     ap (λ (home : Option Home). (new_block call home layout).answer) (refused_no_room l r arena raw fits (within_why call found raw small why))
 
-change_null : (call : SizedCall) (found : Option Fault) (arena : Grant) (raw : Ask) (l : Layout) (block : Block) (d : Decision) → Decides call.size found d
-    → FitsRequest l (request_to_change call block d) arena raw → IsWhy call found raw → (change_turn call arena raw l block d).answer ≡ null
+change_null : (call : SizedCall) (found : Option Fault) (arena : Grant) (raw : Ask) (l : Layout) (block : Block) (d : Decision)
+    → Decides call.size found d
+    → FitsRequest l (request_to_change call block d) arena raw → IsWhy call found raw
+    → (change_turn call arena raw l block d).answer ≡ null
 change_null call found arena raw l block too_great (over_all great) fits why = refl
 change_null call found arena raw l block too_great (over_data great none) fits why = refl
-change_null call found arena raw l block (faults _) (faulty which small some) fits why = absurd (faulty_not call found raw which small some fits.raw_asked why)
+change_null call found arena raw l block (faults _) (faulty which small some) fits why =
+    absurd (faulty_not call found raw which small some fits.raw_asked why)
 change_null call found arena raw l block asks (within small none) fits why = by (stays_in_place block (need call.size)) fits
   where
     refused : raw ≡ ask.Refused
     refused = within_why call found raw small why
 
-    by : (b : Bool) → FitsRequest l (cond b NoRequest (request_to_move call block)) arena raw → (change_by call arena raw l block b).answer ≡ null
+    by : (b : Bool) → FitsRequest l (cond b NoRequest (request_to_move call block)) arena raw
+        → (change_by call arena raw l block b).answer ≡ null
     by true fits = absurd (true≢false (ap raw_was_asked (sym refused) ∙ fits.raw_asked))
     by false fits =
         let r = request_to_move call block in
         let layout = (room_for l r arena raw).layout in
         ap (λ (home : Option Home). (move_block call block home layout).answer) (refused_no_room l r arena raw fits refused)
 
-pub sized_null : (call : SizedCall) (locked : Bool) (arena : Grant) (raw : Ask) (l : Layout) (o : Option Block) → FitsRequest l (sized_request call locked o) arena raw
+pub sized_null : (call : SizedCall) (locked : Bool) (arena : Grant) (raw : Ask) (l : Layout) (o : Option Block)
+    → FitsRequest l (sized_request call locked o) arena raw
     → is_busy call o ≡ false → IsWhy call (fault_of call locked o) raw → (sized_turn call locked arena raw l o).answer ≡ null
-sized_null call locked arena raw l None fits idle why = new_null call (fault_of call locked None) arena raw l (came_to call locked None) (decides call.letter call.size locked None) fits why
+sized_null call locked arena raw l None fits idle why =
+    new_null call (fault_of call locked None) arena raw l (came_to call locked None) (decides call.letter call.size locked None) fits why
 sized_null call locked arena raw l (Some block) fits idle why = by call.goes_on fits idle
   where
     d : Decision
     d = came_to call locked (Some block)
 
-    by : (b : Bool) → FitsRequest l (cond b (request_to_change call block d) NoRequest) arena raw → not b ≡ false → (cond b (change_turn call arena raw l block d) (turn_to (Some block) l busy)).answer ≡ null
-    by true fits idle = change_null call (fault_of call locked (Some block)) arena raw l block d (decides call.letter call.size locked (finding_of call.letter (Some block))) fits why
+    by : (b : Bool) → FitsRequest l (cond b (request_to_change call block d) NoRequest) arena raw → not b ≡ false
+        → (cond b (change_turn call arena raw l block d) (turn_to (Some block) l busy)).answer ≡ null
+    by true fits idle =
+        change_null call (fault_of call locked (Some block)) arena raw l block d (decides call.letter call.size locked (finding_of call.letter (Some block))) fits why
     by false fits idle = absurd (true≢false idle)

@@ -41,7 +41,8 @@ or_swaps false true c = refl
 or_swaps false false c = refl
 
 -- a plan that grows twice
-grows_twice : (first second both : ℕ → Bool) → ((n : ℕ) → both n ≡ (first n || second n)) → (a b c : Plan) → GrowsBy first a b → GrowsBy second b c → GrowsBy both a c
+grows_twice : (first second both : ℕ → Bool) → ((n : ℕ) → both n ≡ (first n || second n)) → (a b c : Plan)
+    → GrowsBy first a b → GrowsBy second b c → GrowsBy both a c
 grows_twice first second both is None None c f s = s
 grows_twice first second both is None (Some b) c f s = absurd cc
 grows_twice first second both is (Some a) None c f s = absurd f
@@ -58,7 +59,8 @@ planned_more tracks side asked es e before between now first second =
     (λ n. planned_push tracks side (opening tracks) asked es e n) before between now first second
 
 -- a number that came to the plan only later was in it, where it lies below those that came
-was_planned : (more : ℕ → Bool) (before now : Plan) (m n : ℕ) → GrowsBy more before now → ((k : ℕ) → more k ≡ true → m < k) → n ≤ m → IsPlanned now n → IsPlanned before n
+was_planned : (more : ℕ → Bool) (before now : Plan) (m n : ℕ) → GrowsBy more before now
+    → ((k : ℕ) → more k ≡ true → m < k) → n ≤ m → IsPlanned now n → IsPlanned before n
 was_planned more None None m n grows past low planned = absurd planned
 was_planned more None (Some now) m n grows past low planned = absurd cc
 was_planned more (Some before) None m n grows past low planned = absurd planned
@@ -86,4 +88,5 @@ pub heeds_more : (side : Side) (asked : ℕ) (es : List Entry) (e : Entry) (more
     → Heeds side before asked es → GrowsBy more before now → ((n : ℕ) → more n ≡ true → asked + asked_in side es < n)
     → (asks_in side e ≡ 1 → IsPlanned now (asked + asked_in side es + 1) → refusals_in side e ≡ 1)
     → Heeds side now asked (es ++ e ∷ [])
-heeds_more side asked es e more before now heeds grows past last = heeds_push side asked es e more before now (asked + asked_in side es) heeds grows past (omega arith) last
+heeds_more side asked es e more before now heeds grows past last =
+    heeds_push side asked es e more before now (asked + asked_in side es) heeds grows past (omega arith) last

@@ -30,7 +30,8 @@ module _ (ready : ℕ → Bool) where
   none_among [] left t none = none.0
   none_among (p ∷ passed) left t none = none_among passed left t none.1
 
-  same_pick : (passed passed_too left rest : List ℕ) (t u : ℕ) → passed ++ t ∷ left ≡ passed_too ++ u ∷ rest → NoneIsReady ready passed → NoneIsReady ready passed_too
+  same_pick : (passed passed_too left rest : List ℕ) (t u : ℕ) → passed ++ t ∷ left ≡ passed_too ++ u ∷ rest
+      → NoneIsReady ready passed → NoneIsReady ready passed_too
       → ready t ≡ true → ready u ≡ true → (t ≡ u) × (left ≡ rest)
   same_pick [] [] left rest t u same none none_too is is_too = (cc, cc)
   same_pick [] (q ∷ qs) left rest t u same none none_too is is_too =
@@ -56,8 +57,10 @@ module _ (ready : ℕ → Bool) where
   not_picked picks t left none picked =
       both_ways t (none_among picked.passed left t (subst (NoneIsReady ready) picked.all none)) picked.is
 
-  pub takes_one : (picks : List ℕ) (t u : ℕ) (left rest : List ℕ) → Takes ready picks t left → Takes ready picks u rest → (t ≡ u) × (left ≡ rest)
-  takes_one picks t u left rest (inl a) (inl b) = same_pick a.passed b.passed left rest t u (sym a.all ∙ b.all) a.over b.over a.is b.is
+  pub takes_one : (picks : List ℕ) (t u : ℕ) (left rest : List ℕ) → Takes ready picks t left
+      → Takes ready picks u rest → (t ≡ u) × (left ≡ rest)
+  takes_one picks t u left rest (inl a) (inl b) =
+      same_pick a.passed b.passed left rest t u (sym a.all ∙ b.all) a.over b.over a.is b.is
   takes_one picks t u left rest (inl a) (inr b) = absurd (not_picked picks t left b.over a)
   takes_one picks t u left rest (inr a) (inl b) = absurd (not_picked picks u rest a.over b)
   takes_one picks t u left rest (inr a) (inr b) = (same_first t u a.first b.first, a.none ∙ sym b.none)
@@ -65,14 +68,17 @@ module _ (ready : ℕ → Bool) where
 -- ---- histories
 
 -- one more entry, of the track that the schedule takes from the picks that were left
-pub follows_push : (tracks : List PlainTrack) (s : State) (picks : List ℕ) (es : List Entry) (e : Entry) (left rest : List ℕ) → FollowsFrom tracks s picks es left
+pub follows_push : (tracks : List PlainTrack) (s : State) (picks : List ℕ) (es : List Entry) (e : Entry) (left rest : List ℕ)
+    → FollowsFrom tracks s picks es left
     → Takes (is_ready tracks (state_after tracks s es)) left e.track rest → FollowsFrom tracks s picks (es ++ e ∷ []) rest
-follows_push tracks s picks [] e left rest is takes = (rest, subst (λ (ps : List ℕ). Takes (is_ready tracks s) ps e.track rest) is takes, refl)
+follows_push tracks s picks [] e left rest is takes =
+    (rest, subst (λ (ps : List ℕ). Takes (is_ready tracks s) ps e.track rest) is takes, refl)
 follows_push tracks s picks (x ∷ es) e left rest follows takes =
     (follows.0, follows.1, follows_push tracks (event tracks s x).0 follows.0 es e left rest follows.2 takes)
 
 -- legal entries follow their own tracks
-follows_itself : (tracks : List PlainTrack) (s : State) (es : List Entry) → IsLegalFrom tracks s es → FollowsFrom tracks s (map (λ e. e.track) es) es []
+follows_itself : (tracks : List PlainTrack) (s : State) (es : List Entry) → IsLegalFrom tracks s es
+    → FollowsFrom tracks s (map (λ e. e.track) es) es []
 follows_itself tracks s [] legal = refl
 follows_itself tracks s (e ∷ es) legal = (
   map (λ e. e.track) es,

@@ -16,14 +16,15 @@ use Rattle.event_model.specs.Events.{event}
 use Rattle.event_model.specs.History.{opening, state_after}
 use Rattle.event_model.specs.Laws.{FewAreTaken}
 use Rattle.event_model.specs.State.{State}
-use Rattle.event_model.proofs.EffectLaws.{event_holds}
+use Rattle.event_model.proofs.EventLaws.{event_holds}
 
 -- at most so many more arenas and pools than a layout has
 record HasAtMost (l : Layout) (more : ℕ) (now : Layout) : Type 0 where
   pub given : now.given ≤ l.given + more
   pub full : length now.full ≤ length l.full + more
 
-either_most : (l : Layout) (more : ℕ) (x y : Layout) (b : Bool) → HasAtMost l more x → HasAtMost l more y → HasAtMost l more (cond b x y)
+either_most : (l : Layout) (more : ℕ) (x y : Layout) (b : Bool) → HasAtMost l more x → HasAtMost l more y
+    → HasAtMost l more (cond b x y)
 either_most l more x y true h k = h
 either_most l more x y false h k = k
 
@@ -87,7 +88,8 @@ event_most tracks s e =
     let most = unplace_most now k (get_or now.full k None) in
     record { given = omega (arith, most.given, here.given); full = omega (arith, most.full, here.full) })
 
-after_most : (tracks : List PlainTrack) (s : State) (es : List Entry) → HasAtMost s.held.layout (length es) (state_after tracks s es).held.layout
+after_most : (tracks : List PlainTrack) (s : State) (es : List Entry)
+    → HasAtMost s.held.layout (length es) (state_after tracks s es).held.layout
 after_most tracks s [] = record { given = omega arith; full = omega arith }
 after_most tracks s (e ∷ es) =
     let one = event_most tracks s e in

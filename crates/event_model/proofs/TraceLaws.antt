@@ -1,5 +1,5 @@
--- A trace under a block's name belongs to a live block of that name, and has its number of data bytes.
-use Rattle.std.proofs.Common.{◌≡◌, ◌≢◌, ℕ, ◌+◌, ◌-◌, ◌≤◌, ℤ, Bool, true, false, cond, List, [], ◌∷◌, ◌++◌, length}
+-- When each trace under a block's name belongs to a live block of that name, and has its number of data bytes.
+use Rattle.std.proofs.Common.{◌≡◌, ◌≢◌, ℕ, ◌+◌, ◌-◌, ◌≤◌, ℤ, Bool, true, false, cond, List, ◌++◌, length}
 use Rattle.std.proofs.Common.{replicate, take, drop, Option, Some, None, refl, sym, ap, subst, ◌∙◌, inl, inr}
 use Rattle.std.proofs.Common.{◌⊎◌, arith}
 use Rattle.std.proofs.Common.{true≢false}
@@ -10,55 +10,44 @@ use Rattle.std.proofs.lemmas.Slice.Eq.{bytes_eq-Decides}
 use Rattle.mem_base.specs.Name.{Name}
 use Rattle.mem_base.specs.declared.history.Grant.{Grant}
 use Rattle.mem_base.specs.declared.history.Ask.{Ask}
-use Rattle.mem_base.specs.declared.history.Entry.{Entry}
 use Rattle.mem_base.specs.declared.reply.Fault.{Fault}
 use Rattle.mem_base.specs.declared.trace.Letter.{Letter}
 use Rattle.block_model.specs.Block.{Body, data_of, fresh, index_of, poked, reaches, resized, size_of}
 use Rattle.block_model.proofs.CallerLemmas.{size-body_of}
 use Rattle.frame_model.specs.Frames.{PlainFrame}
 use Rattle.layout_model.specs.Layout.{Layout}
-use Rattle.request_model.specs.Decision.{call_fault}
 use Rattle.map_model.specs.Map.{find, hold}
 use Rattle.map_model.proofs.CallerLemmas.{find-hold_again, find-hold_other, find-hold_same}
 use Rattle.tracing_model.specs.Traces.{of_block, of_mark, TraceOf, trace_at, traces_with}
 use Rattle.tracing_model.specs.Tracing.{Tracing, Change, gets, forgets, starts, stops, clears, resets, keeps}
 use Rattle.tracing_model.specs.Tracing.{after, trace_of}
 use Rattle.tracing_model.proofs.CallerLemmas.{gone_at, gone_other, got_at, got_other}
-use Rattle.trace_model.specs.Plain.{Action, acquire, release, malloc, calloc, realloc, free, poke, peek, enter, go_to}
-use Rattle.trace_model.specs.Plain.{leave, start_tracing, stop_tracing, clear_traces, reset_peak, traced_memory, mark}
-use Rattle.trace_model.specs.Plain.{unmark, origin, heap, refuse, other, PlainTrack}
 use Rattle.event_model.specs.Blocks.{Block, Blocks}
-use Rattle.event_model.specs.Effects.{act, effect}
-use Rattle.event_model.specs.Events.{event, event_of, settle, advance, next_action}
+use Rattle.event_model.specs.Deeds.{Deed, reads_bytes, writes_bytes}
+use Rattle.event_model.specs.Effects.{act, change_of, effect}
 use Rattle.event_model.specs.Frames.{frames_at}
-use Rattle.event_model.specs.History.{opening, state_after}
-use Rattle.event_model.specs.Laws.{TracesAreOfBlocks}
-use Rattle.event_model.specs.Memory.{SizedCall, Turn, calloc_call, finding_of, free_unless, given_body, malloc_call}
-use Rattle.event_model.specs.Memory.{poke_turn, realloc_call, sized_turn, turn_to}
-use Rattle.event_model.specs.Replies.{PlainReply, ok, null, busy, absent, outside, held, not_held}
-use Rattle.event_model.specs.Replies.{not_tracing, untraced}
-use Rattle.event_model.specs.Replies.{traced, frames, bytes, shape, fault, unsaid, is_fault, is_ok}
-use Rattle.event_model.specs.State.{Held, State, is_owner}
-use Rattle.event_model.specs.Tracing.{change_of, sized_change, trace_in, unknown_frame, where_ok}
-use Rattle.event_model.proofs.KeepLaws.{free_keeps, peek_keeps, sized_keeps}
-use Rattle.event_model.proofs.NameLaws.{free_held, sized_gives}
+use Rattle.event_model.specs.Memory.{SizedCall, Turn, free_unless, given_body, poke_turn, sized_turn, turn_to}
+use Rattle.event_model.specs.Replies.{PlainReply, ok, outside, is_ok}
+use Rattle.event_model.specs.State.{Held, is_owner}
+use Rattle.event_model.specs.Tracing.{sized_change, trace_in, unknown_frame, where_ok}
+use Rattle.event_model.proofs.KeepLaws.{free_held, free_keeps, peek_keeps, sized_gives, sized_keeps}
 
 -- a block is held, with so many bytes of data
-abbrev HoldsSize : ℕ → Option Block → Type 0
+abbrev pub HoldsSize : ℕ → Option Block → Type 0
 HoldsSize size o = (block : Block) × (o ≡ Some block) × (size_of block.body ≡ size)
 
 -- each trace under a name is of the block that the name holds
-abbrev AreOf : Blocks → Option Tracing → Type 0
+abbrev pub AreOf : Blocks → Option Tracing → Type 0
 AreOf blocks tracing =
     (name : Name) (t : TraceOf) → trace_in tracing (of_block name) ≡ Some t → HoldsSize t.size (find blocks name)
 
 -- the same of all that is held
-abbrev AreIn : Held → Type 0
+abbrev pub AreIn : Held → Type 0
 AreIn h = AreOf h.blocks h.tracing
 
 -- ---- names
 
-same_or_other : (a b : Name) → (a ≡ b) ⊎ (a ≢ b)
+pub same_or_other : (a b : Name) → (a ≡ b) ⊎ (a ≢ b)
 same_or_other a b = by (bytes_eq a b) refl
   where
     by : (v : Bool) → bytes_eq a b ≡ v → (a ≡ b) ⊎ (a ≢ b)
@@ -79,7 +68,7 @@ Fewer old new =
     (name : Name) (t : TraceOf) → trace_in new (of_block name) ≡ Some t → trace_in old (of_block name) ≡ Some t
 
 -- the event gives no name a trace
-abbrev gives_none : Change → Bool
+abbrev pub gives_none : Change → Bool
 gives_none (gets (of_block name) size) = false
 gives_none (gets (of_mark domain number) size) = true
 gives_none (forgets key) = true
@@ -90,7 +79,7 @@ gives_none resets = true
 gives_none keeps = true
 
 -- a name that holds a block of some size holds one of that size still
-abbrev SizesStay : Blocks → Blocks → Type 0
+abbrev pub SizesStay : Blocks → Blocks → Type 0
 SizesStay old new = (name : Name) (size : ℕ) → HoldsSize size (find old name) → HoldsSize size (find new name)
 
 same_sizes : (old new : Blocks) → ((name : Name) → find new name ≡ find old name) → SizesStay old new
@@ -227,20 +216,7 @@ poke_size offset new l (Some block) size here = by (reaches block.body offset (l
 
 is_done : (reply : PlainReply) → is_ok reply ≡ true → reply ≡ ok
 is_done ok done = refl
-is_done null done = absurd (true≢false (sym done))
-is_done busy done = absurd (true≢false (sym done))
-is_done absent done = absurd (true≢false (sym done))
-is_done outside done = absurd (true≢false (sym done))
-is_done held done = absurd (true≢false (sym done))
-is_done not_held done = absurd (true≢false (sym done))
-is_done not_tracing done = absurd (true≢false (sym done))
-is_done untraced done = absurd (true≢false (sym done))
-is_done (traced current most) done = absurd (true≢false (sym done))
-is_done (frames kept total) done = absurd (true≢false (sym done))
-is_done (bytes found) done = absurd (true≢false (sym done))
-is_done (shape view) done = absurd (true≢false (sym done))
-is_done (fault found block) done = absurd (true≢false (sym done))
-is_done unsaid done = absurd (true≢false (sym done))
+is_done reply done = absurd (true≢false (sym done))
 
 is_undone : (reply : PlainReply) → is_ok reply ≡ false → reply ≢ ok
 is_undone reply undone = λ same. true≢false (sym (ap is_ok same) ∙ undone)
@@ -248,11 +224,11 @@ is_undone reply undone = λ same. true≢false (sym (ap is_ok same) ∙ undone)
 module _ (h : Held) (t : ℕ) (arena : Grant) (raw : Ask) (are : AreIn h) where
   -- the block that a name comes to hold, and its trace, where a call was done or not
   module _ (name : Name) (fs : List PlainFrame) (turn : Turn) where
-    abbrev blocks_then : Blocks
+    abbrev pub blocks_then : Blocks
     blocks_then = hold h.blocks name turn.block
 
     -- each trace is of the block of its name, where this is what the call means for what is traced if it was done
-    abbrev AreThen : Change → Type 0
+    abbrev pub AreThen : Change → Type 0
     AreThen change = AreOf blocks_then (after unknown_frame fs (where_ok turn.answer change) h.tracing)
 
     then_are : (change : Change)
@@ -267,7 +243,7 @@ module _ (h : Held) (t : ℕ) (arena : Grant) (raw : Ask) (are : AreIn h) where
             let stay = same_sizes h.blocks blocks_then (λ mine. find-hold_again h.blocks name mine turn.block same) in
             are_still unknown_frame fs h.blocks blocks_then keeps h.tracing refl are stay
 
-  sized_are : (name : Name) (call : SizedCall) (fs : List PlainFrame)
+  pub sized_are : (name : Name) (call : SizedCall) (fs : List PlainFrame)
       → AreThen name fs (sized_turn call (is_owner h.owner t) arena raw h.layout (find h.blocks name)) (sized_change name call)
   sized_are name call fs =
       then_are name fs turn (sized_change name call) (sized_keeps call locked arena raw h.layout now)
@@ -286,7 +262,7 @@ module _ (h : Held) (t : ℕ) (arena : Grant) (raw : Ask) (are : AreIn h) where
       turn : Turn
       turn = sized_turn call locked arena raw h.layout now
 
-  free_are : (name : Name) (found : Option Fault) (fs : List PlainFrame)
+  pub free_are : (name : Name) (found : Option Fault) (fs : List PlainFrame)
       → AreThen name fs (free_unless found h.layout (find h.blocks name)) (forgets (of_block name))
   free_are name found fs =
       then_are name fs turn (forgets (of_block name)) (free_keeps found h.layout now)
@@ -300,8 +276,8 @@ module _ (h : Held) (t : ℕ) (arena : Grant) (raw : Ask) (are : AreIn h) where
       turn : Turn
       turn = free_unless found h.layout now
 
-  poke_sizes : (name : Name) (offset : ℤ) (new : List ℕ)
-      → SizesStay h.blocks (effect h t (poke name offset new) arena raw).0.blocks
+  pub poke_sizes : (name : Name) (offset : ℤ) (new : List ℕ)
+      → SizesStay h.blocks (effect h t (writes_bytes name offset new) arena raw).0.blocks
   poke_sizes name offset new = λ mine size here.
       let now = find h.blocks name in
       let block = (poke_turn offset new h.layout now).block in
@@ -314,74 +290,19 @@ module _ (h : Held) (t : ℕ) (arena : Grant) (raw : Ask) (are : AreIn h) where
         | inr away ↦ subst (HoldsSize size) (sym (find-hold_other h.blocks name mine block away)) here
       ]
 
-  peek_sizes : (name : Name) (offset : ℤ) (count : ℕ)
-      → SizesStay h.blocks (effect h t (peek name offset count) arena raw).0.blocks
+  pub peek_sizes : (name : Name) (offset : ℤ) (count : ℕ)
+      → SizesStay h.blocks (effect h t (reads_bytes name offset count) arena raw).0.blocks
   peek_sizes name offset count =
-      same_sizes h.blocks (effect h t (peek name offset count) arena raw).0.blocks
+      same_sizes h.blocks (effect h t (reads_bytes name offset count) arena raw).0.blocks
       (λ mine. find-hold_again h.blocks name mine _ (peek_keeps offset count h.layout (find h.blocks name)))
 
-  all_stay : SizesStay h.blocks h.blocks
+  pub all_stay : SizesStay h.blocks h.blocks
   all_stay = λ name size here. here
 
   -- an operation that gives no name a trace
-  other_are : (a : Action) → gives_none (change_of a (effect h t a arena raw).1) ≡ true
-      → AreOf h.blocks (effect h t a arena raw).0.tracing → SizesStay h.blocks (effect h t a arena raw).0.blocks
-      → AreIn (act h t a arena raw).0
-  other_are a none same stay =
-      let r = effect h t a arena raw in
-      are_still unknown_frame (frames_at r.0.frames t) h.blocks r.0.blocks (change_of a r.1) r.0.tracing none same stay
-
-  act_are : (a : Action) → AreIn (act h t a arena raw).0
-  act_are acquire = other_are acquire refl are all_stay
-  act_are release = other_are release refl are all_stay
-  act_are (malloc v name n) = sized_are name (malloc_call v n) (frames_at h.frames t)
-  act_are (calloc v name count n) = sized_are name (calloc_call v count n) (frames_at h.frames t)
-  act_are (realloc v name n) = sized_are name (realloc_call v n) (frames_at h.frames t)
-  act_are (free v name) =
-      let found = finding_of v (find h.blocks name) in
-      free_are name (call_fault v (is_owner h.owner t) found) (frames_at h.frames t)
-  act_are (poke name offset new) = other_are (poke name offset new) refl are (poke_sizes name offset new)
-  act_are (peek name offset count) = other_are (peek name offset count) refl are (peek_sizes name offset count)
-  act_are (enter file line) = other_are (enter file line) refl are all_stay
-  act_are (go_to line) = other_are (go_to line) refl are all_stay
-  act_are leave = other_are leave refl are all_stay
-  act_are (start_tracing limit) = other_are (start_tracing limit) refl are all_stay
-  act_are stop_tracing = other_are stop_tracing refl are all_stay
-  act_are clear_traces = other_are clear_traces refl are all_stay
-  act_are reset_peak = other_are reset_peak refl are all_stay
-  act_are traced_memory = other_are traced_memory refl are all_stay
-  act_are (mark domain number size) = other_are (mark domain number size) refl are all_stay
-  act_are (unmark domain number) = other_are (unmark domain number) refl are all_stay
-  act_are (origin name) = other_are (origin name) refl are all_stay
-  act_are heap = other_are heap refl are all_stay
-  act_are (refuse side k) = other_are (refuse side k) refl are all_stay
-  act_are other = other_are other refl are all_stay
-
--- ---- histories
-
-settle_are : (tracks : List PlainTrack) (t : ℕ) (s : State) (r : Held × PlainReply)
-    → AreIn s.held → AreIn r.0 → AreIn (settle tracks t s r).held
-settle_are tracks t s r here there = by (is_fault r.1)
-  where
-    by : (b : Bool) → AreIn (cond b (record s { faulted = true }) (advance tracks t s r.0)).held
-    by true = here
-    by false = there
-
-event_are : (tracks : List PlainTrack) (s : State) (e : Entry) → AreIn s.held → AreIn (event tracks s e).0.held
-unfolding event
-event_are tracks s e are = by (next_action tracks s e.track)
-  where
-    by : (o : Option Action) → AreIn (event_of tracks s e.track e.arena e.raw o).0.held
-    by None = are
-    by (Some a) =
-        let r = act s.held e.track a e.arena e.raw in
-        settle_are tracks e.track s r are (act_are s.held e.track e.arena e.raw are a)
-
-after_are : (tracks : List PlainTrack) (s : State) (es : List Entry)
-    → AreIn s.held → AreIn (state_after tracks s es).held
-after_are tracks s [] are = are
-after_are tracks s (e ∷ es) are = after_are tracks (event tracks s e).0 es (event_are tracks s e are)
-
-pub traces_of_blocks : TracesAreOfBlocks
-traces_of_blocks tracks es name trace legal is =
-    after_are tracks (opening tracks) es (λ name t is. absurd cc) name trace is
+  pub other_are : (d : Deed) → gives_none (change_of d (effect h t d arena raw).1) ≡ true
+      → AreOf h.blocks (effect h t d arena raw).0.tracing → SizesStay h.blocks (effect h t d arena raw).0.blocks
+      → AreIn (act h t d arena raw).0
+  other_are d none same stay =
+      let r = effect h t d arena raw in
+      are_still unknown_frame (frames_at r.0.frames t) h.blocks r.0.blocks (change_of d r.1) r.0.tracing none same stay

@@ -1,7 +1,6 @@
--- All that depends on which operation comes: what it does and answers, whether it may come now, what it asks
--- the sources for, and which requests it wants to be refused. One more operation has one more arm in each.
--- What the operations of one family do to their own part of what is held stands in Memory, Lock, Frames, Tracing and
--- Shape.
+-- All that depends on what an operation comes to: what it does and answers, what is traced then, whether it may come
+-- now, what it asks the sources for, and which requests it wants to be refused. What the operations of one family do
+-- to their own part of what is held stands in Memory, Lock, Frames, Tracing, Snapshots and Shape.
 use Rattle.std.specs.Prelude.{ℕ, ◌+◌, Bool, true, false, not, ◌&&◌, ◌||◌, ◌==◌, List, Option, Some, None, is_some}
 use Rattle.mem_base.specs.Name.{Name}
 use Rattle.mem_base.specs.declared.history.Grant.{Grant}
@@ -12,21 +11,21 @@ use Rattle.layout_model.specs.Asks.{Request}
 use Rattle.layout_model.specs.Asks.Request.{NoRequest}
 use Rattle.layout_model.specs.Layout.{Layout}
 use Rattle.map_model.specs.Map.{find, hold}
-use Rattle.frame_model.specs.Frames.{PlainFrame, frames_below}
-use Rattle.trace_model.specs.Plain.{Action, acquire, release, malloc, calloc, realloc, free, poke, peek}
-use Rattle.trace_model.specs.Plain.{enter, go_to, leave}
-use Rattle.trace_model.specs.Plain.{start_tracing, stop_tracing, clear_traces, reset_peak, traced_memory}
-use Rattle.trace_model.specs.Plain.{mark, unmark, origin}
-use Rattle.trace_model.specs.Plain.{heap, refuse, other}
+use Rattle.frame_model.specs.Frames.{PlainFrame}
+use Rattle.tracing_model.specs.Traces.{of_block}
+use Rattle.tracing_model.specs.Tracing.{Tracing, Change, forgets, keeps, after}
 use Rattle.event_model.specs.Blocks.{Block}
-use Rattle.event_model.specs.Frames.{with_call, frames_at, frames_then, with_line}
+use Rattle.event_model.specs.Deeds.{Deed, takes_lock, gives_lock, calls, frees, writes_bytes, reads_bytes, moves}
+use Rattle.event_model.specs.Deeds.{changes, marks, asks_traced, asks_trace, takes_snapshot, keeps_by, asks_stats}
+use Rattle.event_model.specs.Deeds.{asks_shape, lists_request, does_nothing}
+use Rattle.event_model.specs.Frames.{frames_at, frames_then}
 use Rattle.event_model.specs.Lock.{acquire_turn, release_turn}
-use Rattle.event_model.specs.Memory.{SizedCall, Turn, calloc_call, free_turn, malloc_call, peek_turn}
-use Rattle.event_model.specs.Memory.{poke_turn, realloc_call, sized_request, sized_turn}
+use Rattle.event_model.specs.Memory.{SizedCall, Turn, free_turn, peek_turn, poke_turn, sized_request, sized_turn}
 use Rattle.event_model.specs.Replies.{PlainReply, ok, shape, unsaid}
 use Rattle.event_model.specs.Shape.{heap_view}
+use Rattle.event_model.specs.Snapshots.{Snapshots, snapshot_turn, keep_turn, stats_answer}
 use Rattle.event_model.specs.State.{Held, is_owner}
-use Rattle.event_model.specs.Tracing.{mark_answer, origin_answer, traced_answer, tracing_after}
+use Rattle.event_model.specs.Tracing.{mark_answer, origin_answer, sized_change, traced_answer, unknown_frame, where_ok}
 
 -- ---- what it does
 
@@ -48,39 +47,64 @@ on_lock h f = let turn = f h.owner in (record h { owner = turn.0 }, turn.1)
 abbrev pub on_frames : Held → ℕ → (List PlainFrame → List PlainFrame) → Held × PlainReply
 on_frames h t f = (record h { frames = frames_then h.frames t f }, ok)
 
+-- an operation on the snapshots
+abbrev pub on_snapshots : Held → (Snapshots → Snapshots × PlainReply) → Held × PlainReply
+on_snapshots h f = let turn = f h.snapshots in (record h { snapshots = turn.0 }, turn.1)
+
 -- what an operation of track t does to all but what is traced, and what it answers, with these answers of the arena
 -- source and of the raw source
-abbrev pub effect : Held → ℕ → Action → Grant → Ask → Held × PlainReply
-effect h t acquire arena raw = on_lock h (acquire_turn t)
-effect h t release arena raw = on_lock h (release_turn t)
-effect h t (malloc v name n) arena raw = on_sized h t name (malloc_call v n) arena raw
-effect h t (calloc v name count n) arena raw = on_sized h t name (calloc_call v count n) arena raw
-effect h t (realloc v name n) arena raw = on_sized h t name (realloc_call v n) arena raw
-effect h t (free v name) arena raw = on_block h name (free_turn v (is_owner h.owner t))
-effect h t (poke name offset new) arena raw = on_block h name (poke_turn offset new)
-effect h t (peek name offset count) arena raw = on_block h name (peek_turn offset count)
-effect h t (enter file line) arena raw = on_frames h t (with_call file line)
-effect h t (go_to line) arena raw = on_frames h t (with_line line)
-effect h t leave arena raw = on_frames h t frames_below
-effect h t (start_tracing limit) arena raw = (h, ok)
-effect h t stop_tracing arena raw = (h, ok)
-effect h t clear_traces arena raw = (h, ok)
-effect h t reset_peak arena raw = (h, ok)
-effect h t traced_memory arena raw = (h, traced_answer h.tracing)
-effect h t (mark domain number size) arena raw = (h, mark_answer h.tracing)
-effect h t (unmark domain number) arena raw = (h, mark_answer h.tracing)
-effect h t (origin name) arena raw = (h, origin_answer h.tracing name)
-effect h t heap arena raw = (h, shape (heap_view h.blocks h.layout))
-effect h t (refuse side k) arena raw = (h, ok)
-effect h t other arena raw = (h, unsaid)
+abbrev pub effect : Held → ℕ → Deed → Grant → Ask → Held × PlainReply
+effect h t takes_lock arena raw = on_lock h (acquire_turn t)
+effect h t gives_lock arena raw = on_lock h (release_turn t)
+effect h t (calls name call) arena raw = on_sized h t name call arena raw
+effect h t (frees v name) arena raw = on_block h name (free_turn v (is_owner h.owner t))
+effect h t (writes_bytes name offset new) arena raw = on_block h name (poke_turn offset new)
+effect h t (reads_bytes name offset count) arena raw = on_block h name (peek_turn offset count)
+effect h t (moves f) arena raw = on_frames h t f
+effect h t (changes change) arena raw = (h, ok)
+effect h t (marks change) arena raw = (h, mark_answer h.tracing)
+effect h t asks_traced arena raw = (h, traced_answer h.tracing)
+effect h t (asks_trace name) arena raw = (h, origin_answer h.tracing name)
+effect h t (takes_snapshot name) arena raw = on_snapshots h (snapshot_turn h.tracing name)
+effect h t (keeps_by new old rules) arena raw = on_snapshots h (keep_turn new old rules)
+effect h t (asks_stats name key cumulative most) arena raw = (h, stats_answer h.snapshots name key cumulative most)
+effect h t asks_shape arena raw = (h, shape (heap_view h.blocks h.layout))
+effect h t (lists_request at k) arena raw = (h, ok)
+effect h t does_nothing arena raw = (h, unsaid)
 
--- what is then traced, where the operation answered so
-abbrev pub follow : ℕ → Action → Held × PlainReply → Held × PlainReply
-follow t a r = (record r.0 { tracing = tracing_after (frames_at r.0.frames t) a r.1 r.0.tracing }, r.1)
+-- ---- what is traced then
+
+-- what an operation that answered so means for what is traced
+abbrev pub change_of : Deed → PlainReply → Change
+change_of takes_lock reply = keeps
+change_of gives_lock reply = keeps
+change_of (calls name call) reply = where_ok reply (sized_change name call)
+change_of (frees v name) reply = where_ok reply (forgets (of_block name))
+change_of (writes_bytes name offset new) reply = keeps
+change_of (reads_bytes name offset count) reply = keeps
+change_of (moves f) reply = keeps
+change_of (changes change) reply = change
+change_of (marks change) reply = change
+change_of asks_traced reply = keeps
+change_of (asks_trace name) reply = keeps
+change_of (takes_snapshot name) reply = keeps
+change_of (keeps_by new old rules) reply = keeps
+change_of (asks_stats name key cumulative most) reply = keeps
+change_of asks_shape reply = keeps
+change_of (lists_request at k) reply = keeps
+change_of does_nothing reply = keeps
+
+-- what is traced after an operation of a track with these frames that answered so
+abbrev pub tracing_after : List PlainFrame → Deed → PlainReply → Option Tracing → Option Tracing
+tracing_after callers d reply tracing = after unknown_frame callers (change_of d reply) tracing
+
+-- what is then traced, where the operation of track t did and answered so
+abbrev pub follow : ℕ → Deed → Held × PlainReply → Held × PlainReply
+follow t d r = (record r.0 { tracing = tracing_after (frames_at r.0.frames t) d r.1 r.0.tracing }, r.1)
 
 -- what an operation of track t does and answers
-abbrev pub act : Held → ℕ → Action → Grant → Ask → Held × PlainReply
-act h t a arena raw = follow t a (effect h t a arena raw)
+abbrev pub act : Held → ℕ → Deed → Grant → Ask → Held × PlainReply
+act h t d arena raw = follow t d (effect h t d arena raw)
 
 -- ---- whether it may come now
 
@@ -89,89 +113,70 @@ abbrev pub is_free : Option ℕ → ℕ → Bool
 is_free owner t = not (is_some owner) || is_owner owner t
 
 -- track t need not wait for another track to do this
-abbrev pub may_do_next : Option ℕ → ℕ → Action → Bool
-may_do_next owner t acquire = is_free owner t
-may_do_next owner t release = true
-may_do_next owner t (malloc v name n) = true
-may_do_next owner t (calloc v name count n) = true
-may_do_next owner t (realloc v name n) = true
-may_do_next owner t (free v name) = true
-may_do_next owner t (poke name offset new) = true
-may_do_next owner t (peek name offset count) = true
-may_do_next owner t (enter file line) = true
-may_do_next owner t (go_to line) = true
-may_do_next owner t leave = true
-may_do_next owner t (start_tracing limit) = true
-may_do_next owner t stop_tracing = true
-may_do_next owner t clear_traces = true
-may_do_next owner t reset_peak = true
-may_do_next owner t traced_memory = true
-may_do_next owner t (mark domain number size) = true
-may_do_next owner t (unmark domain number) = true
-may_do_next owner t (origin name) = true
-may_do_next owner t heap = true
-may_do_next owner t (refuse side k) = true
-may_do_next owner t other = true
+abbrev pub may_do_next : Option ℕ → ℕ → Deed → Bool
+may_do_next owner t takes_lock = is_free owner t
+may_do_next owner t gives_lock = true
+may_do_next owner t (calls name call) = true
+may_do_next owner t (frees v name) = true
+may_do_next owner t (writes_bytes name offset new) = true
+may_do_next owner t (reads_bytes name offset count) = true
+may_do_next owner t (moves f) = true
+may_do_next owner t (changes change) = true
+may_do_next owner t (marks change) = true
+may_do_next owner t asks_traced = true
+may_do_next owner t (asks_trace name) = true
+may_do_next owner t (takes_snapshot name) = true
+may_do_next owner t (keeps_by new old rules) = true
+may_do_next owner t (asks_stats name key cumulative most) = true
+may_do_next owner t asks_shape = true
+may_do_next owner t (lists_request at k) = true
+may_do_next owner t does_nothing = true
 
--- ---- what it asks for
+-- ---- the sources
+
+-- it asks no source for anything, gives none anything back, and tells none what to refuse
+abbrev pub is_quiet : Deed → Bool
+is_quiet takes_lock = true
+is_quiet gives_lock = true
+is_quiet (calls name call) = false
+is_quiet (frees v name) = false
+is_quiet (writes_bytes name offset new) = true
+is_quiet (reads_bytes name offset count) = true
+is_quiet (moves f) = true
+is_quiet (changes change) = true
+is_quiet (marks change) = true
+is_quiet asks_traced = true
+is_quiet (asks_trace name) = true
+is_quiet (takes_snapshot name) = true
+is_quiet (keeps_by new old rules) = true
+is_quiet (asks_stats name key cumulative most) = true
+is_quiet asks_shape = true
+is_quiet (lists_request at k) = false
+is_quiet does_nothing = true
 
 -- what a call of track t for a block asks for
 abbrev pub sized_for : Held → ℕ → Name → SizedCall → Request
 sized_for h t name call = sized_request call (is_owner h.owner t) (find h.blocks name)
 
 -- what an operation of track t asks the sources for
-abbrev pub request_of : Held → ℕ → Action → Request
-request_of h t acquire = NoRequest
-request_of h t release = NoRequest
-request_of h t (malloc v name n) = sized_for h t name (malloc_call v n)
-request_of h t (calloc v name count n) = sized_for h t name (calloc_call v count n)
-request_of h t (realloc v name n) = sized_for h t name (realloc_call v n)
-request_of h t (free v name) = NoRequest
-request_of h t (poke name offset new) = NoRequest
-request_of h t (peek name offset count) = NoRequest
-request_of h t (enter file line) = NoRequest
-request_of h t (go_to line) = NoRequest
-request_of h t leave = NoRequest
-request_of h t (start_tracing limit) = NoRequest
-request_of h t stop_tracing = NoRequest
-request_of h t clear_traces = NoRequest
-request_of h t reset_peak = NoRequest
-request_of h t traced_memory = NoRequest
-request_of h t (mark domain number size) = NoRequest
-request_of h t (unmark domain number) = NoRequest
-request_of h t (origin name) = NoRequest
-request_of h t heap = NoRequest
-request_of h t (refuse side k) = NoRequest
-request_of h t other = NoRequest
-
--- ---- its call for a block
-
--- the call for a block that it is, where it is one
-abbrev pub sized_call : Action → Option SizedCall
-sized_call acquire = None
-sized_call release = None
-sized_call (malloc v name n) = Some (malloc_call v n)
-sized_call (calloc v name count n) = Some (calloc_call v count n)
-sized_call (realloc v name n) = Some (realloc_call v n)
-sized_call (free v name) = None
-sized_call (poke name offset new) = None
-sized_call (peek name offset count) = None
-sized_call (enter file line) = None
-sized_call (go_to line) = None
-sized_call leave = None
-sized_call (start_tracing limit) = None
-sized_call stop_tracing = None
-sized_call clear_traces = None
-sized_call reset_peak = None
-sized_call traced_memory = None
-sized_call (mark domain number size) = None
-sized_call (unmark domain number) = None
-sized_call (origin name) = None
-sized_call heap = None
-sized_call (refuse side k) = None
-sized_call other = None
-
--- ---- which requests it wants to be refused
+abbrev pub request_of : Held → ℕ → Deed → Request
+request_of h t takes_lock = NoRequest
+request_of h t gives_lock = NoRequest
+request_of h t (calls name call) = sized_for h t name call
+request_of h t (frees v name) = NoRequest
+request_of h t (writes_bytes name offset new) = NoRequest
+request_of h t (reads_bytes name offset count) = NoRequest
+request_of h t (moves f) = NoRequest
+request_of h t (changes change) = NoRequest
+request_of h t (marks change) = NoRequest
+request_of h t asks_traced = NoRequest
+request_of h t (asks_trace name) = NoRequest
+request_of h t (takes_snapshot name) = NoRequest
+request_of h t (keeps_by new old rules) = NoRequest
+request_of h t (asks_stats name key cumulative most) = NoRequest
+request_of h t asks_shape = NoRequest
+request_of h t (lists_request at k) = NoRequest
+request_of h t does_nothing = NoRequest
 
 abbrev pub same_side : Side → Side → Bool
 same_side side.Arena side.Arena = true
@@ -180,26 +185,43 @@ same_side side.Raw side.Arena = false
 same_side side.Raw side.Raw = true
 
 -- it lists the request of number n of a source, of which so many requests were made before it
-abbrev pub lists_as : Side → ℕ → Action → ℕ → Bool
-lists_as s asked acquire n = false
-lists_as s asked release n = false
-lists_as s asked (malloc v name size) n = false
-lists_as s asked (calloc v name count size) n = false
-lists_as s asked (realloc v name size) n = false
-lists_as s asked (free v name) n = false
-lists_as s asked (poke name offset new) n = false
-lists_as s asked (peek name offset count) n = false
-lists_as s asked (enter file line) n = false
-lists_as s asked (go_to line) n = false
-lists_as s asked leave n = false
-lists_as s asked (start_tracing limit) n = false
-lists_as s asked stop_tracing n = false
-lists_as s asked clear_traces n = false
-lists_as s asked reset_peak n = false
-lists_as s asked traced_memory n = false
-lists_as s asked (mark domain number size) n = false
-lists_as s asked (unmark domain number) n = false
-lists_as s asked (origin name) n = false
-lists_as s asked heap n = false
-lists_as s asked (refuse at k) n = same_side s at && (asked + k == n)
-lists_as s asked other n = false
+abbrev pub lists_as : Side → ℕ → Deed → ℕ → Bool
+lists_as s asked takes_lock n = false
+lists_as s asked gives_lock n = false
+lists_as s asked (calls name call) n = false
+lists_as s asked (frees v name) n = false
+lists_as s asked (writes_bytes name offset new) n = false
+lists_as s asked (reads_bytes name offset count) n = false
+lists_as s asked (moves f) n = false
+lists_as s asked (changes change) n = false
+lists_as s asked (marks change) n = false
+lists_as s asked asks_traced n = false
+lists_as s asked (asks_trace name) n = false
+lists_as s asked (takes_snapshot name) n = false
+lists_as s asked (keeps_by new old rules) n = false
+lists_as s asked (asks_stats name key cumulative most) n = false
+lists_as s asked asks_shape n = false
+lists_as s asked (lists_request at k) n = same_side s at && (asked + k == n)
+lists_as s asked does_nothing n = false
+
+-- ---- the block that it is on
+
+-- the name of the block that it gives, takes, changes or reads
+abbrev pub block_of : Deed → Option Name
+block_of takes_lock = None
+block_of gives_lock = None
+block_of (calls name call) = Some name
+block_of (frees v name) = Some name
+block_of (writes_bytes name offset new) = Some name
+block_of (reads_bytes name offset count) = Some name
+block_of (moves f) = None
+block_of (changes change) = None
+block_of (marks change) = None
+block_of asks_traced = None
+block_of (asks_trace name) = Some name
+block_of (takes_snapshot name) = None
+block_of (keeps_by new old rules) = None
+block_of (asks_stats name key cumulative most) = None
+block_of asks_shape = None
+block_of (lists_request at k) = None
+block_of does_nothing = None

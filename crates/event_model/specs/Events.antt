@@ -8,6 +8,7 @@ use Rattle.mem_base.specs.declared.history.Entry.{Entry}
 use Rattle.layout_model.specs.Asks.{Request}
 use Rattle.layout_model.specs.Asks.Request.{NoRequest}
 use Rattle.trace_model.specs.Plain.{Action, PlainTrack}
+use Rattle.event_model.specs.Deeds.{deed_of}
 use Rattle.event_model.specs.Effects.{act, may_do_next, request_of}
 use Rattle.event_model.specs.Replies.{PlainReply, unsaid, is_fault}
 use Rattle.event_model.specs.State.{Held, State, is_owner}
@@ -23,7 +24,7 @@ next_action tracks s t = action_after tracks t (slice_index s.done t)
 -- a track with this to do next, or with nothing, has something to do and need not wait for another track
 abbrev pub may_do : Option ℕ → ℕ → Option Action → Bool
 may_do owner t None = false
-may_do owner t (Some a) = may_do_next owner t a
+may_do owner t (Some a) = may_do_next owner t (deed_of a)
 
 -- the track has an operation left, and need not wait for another track
 abbrev pub is_ready : List PlainTrack → State → ℕ → Bool
@@ -47,7 +48,7 @@ settle tracks t s r = if is_fault r.1 then record s { faulted = true } else adva
 -- the event of track t, whose next operation is this or none, with these answers of the sources
 abbrev pub event_of : List PlainTrack → State → ℕ → Grant → Ask → Option Action → State × PlainReply
 event_of tracks s t arena raw None = (s, unsaid)
-event_of tracks s t arena raw (Some a) = let r = act s.held t a arena raw in (settle tracks t s r, r.1)
+event_of tracks s t arena raw (Some a) = let r = act s.held t (deed_of a) arena raw in (settle tracks t s r, r.1)
 
 -- the next event of the entry's track, with the answers of the entry: the state after it, and its reply
 unfoldable pub event : List PlainTrack → State → Entry → State × PlainReply
@@ -56,7 +57,7 @@ event tracks s e = event_of tracks s e.track e.arena e.raw (next_action tracks s
 -- what a track's next operation asks the sources for, where there is one
 abbrev pub next_request : Held → ℕ → Option Action → Request
 next_request h t None = NoRequest
-next_request h t (Some a) = request_of h t a
+next_request h t (Some a) = request_of h t (deed_of a)
 
 -- ---- what is left
 

@@ -20,6 +20,7 @@ nothing_held tracks = record {
   owner = None;
   frames = map (λ t. []) tracks;
   tracing = None;
+  snapshots = [];
 }
 
 -- nothing is held, and nothing is done

@@ -8,16 +8,18 @@ use Rattle.mem_base.specs.declared.history.Ask.TheVariants.{Refused}
 use Rattle.mem_base.specs.declared.trace.Letter.{Letter}
 use Rattle.mem_base.specs.declared.trace.Side.{Side}
 use Rattle.mem_base.specs.Name.{Name}
-use Rattle.trace_model.specs.Plain.{Action, acquire, free, PlainTrack, name_of}
-use Rattle.trace_model.specs.Spelling.{action_count}
+use Rattle.trace_model.specs.Plain.{Action, PlainTrack}
+use Rattle.trace_model.specs.Spelling.{action_count, FitsTrack}
 use Rattle.layout_model.specs.Sound.{IsSound}
 use Rattle.map_model.specs.Map.{find}
 use Rattle.block_model.specs.Block.{size_of}
 use Rattle.tracing_model.specs.Traces.{of_block, TraceOf}
+use Rattle.snapshot_model.specs.Snapshots.{PlainSnapshot, IsSnapshot}
 use Rattle.request_model.specs.Counts.{asked_in, asks_in, refusals_in}
 use Rattle.request_model.specs.Decision.{max_data, max_size}
 use Rattle.event_model.specs.Blocks.{Block}
-use Rattle.event_model.specs.Effects.{sized_call}
+use Rattle.event_model.specs.Deeds.{deed_of, takes_lock, calls, frees}
+use Rattle.event_model.specs.Effects.{block_of}
 use Rattle.event_model.specs.Events.{event, is_ready, left_in, next_action, ops_left}
 use Rattle.event_model.specs.History.{IsNext, IsLegal, IsDone, EndsInFault, last_state}
 use Rattle.event_model.specs.Memory.{SizedCall, fault_of, given_body, is_busy}
@@ -72,7 +74,7 @@ LegalIsShort = (tracks : List PlainTrack) (es : List Entry)
 -- an event leaves what a name holds, unless its operation is on the block of that name
 abbrev pub OtherNamesKeepTheirs : Type 0
 OtherNamesKeepTheirs = (tracks : List PlainTrack) (s : State) (e : Entry) (a : Action) (name : Name)
-    → next_action tracks s e.track ≡ Some a → name_of a ≢ Some name
+    → next_action tracks s e.track ≡ Some a → block_of (deed_of a) ≢ Some name
     → find (event tracks s e).0.held.blocks name ≡ find s.held.blocks name
 
 -- an event that answers anything but ok leaves what each name holds
@@ -84,15 +86,14 @@ OnlyOkChangesBlocks = (tracks : List PlainTrack) (s : State) (e : Entry) (name :
 -- with the bytes that it is to have
 abbrev pub CallsGive : Type 0
 CallsGive = (tracks : List PlainTrack) (s : State) (e : Entry) (a : Action) (name : Name) (call : SizedCall)
-    → next_action tracks s e.track ≡ Some a → name_of a ≡ Some name → sized_call a ≡ Some call
-    → (event tracks s e).1 ≡ ok
+    → next_action tracks s e.track ≡ Some a → deed_of a ≡ calls name call → (event tracks s e).1 ≡ ok
     → (block : Block) × (find (event tracks s e).0.held.blocks name ≡ Some block)
     × (block.body ≡ given_body call (find s.held.blocks name))
 
 -- a name of which free answers ok holds nothing
 abbrev pub FreeTakes : Type 0
-FreeTakes = (tracks : List PlainTrack) (s : State) (e : Entry) (v : Letter) (name : Name)
-    → next_action tracks s e.track ≡ Some (free v name) → (event tracks s e).1 ≡ ok
+FreeTakes = (tracks : List PlainTrack) (s : State) (e : Entry) (a : Action) (v : Letter) (name : Name)
+    → next_action tracks s e.track ≡ Some a → deed_of a ≡ frees v name → (event tracks s e).1 ≡ ok
     → find (event tracks s e).0.held.blocks name ≡ None
 
 -- ---- the schedule
@@ -126,7 +127,7 @@ LegalFollowsItsRuns = (tracks : List PlainTrack) (es : List Entry)
 abbrev pub OnlyAcquireWaits : Type 0
 OnlyAcquireWaits = (tracks : List PlainTrack) (s : State) (t : ℕ) (a : Action)
     → next_action tracks s t ≡ Some a → is_ready tracks s t ≡ false
-    → (a ≡ acquire) × (u : ℕ) × (s.held.owner ≡ Some u) × (u ≢ t)
+    → (deed_of a ≡ takes_lock) × (u : ℕ) × (s.held.owner ≡ Some u) × (u ≢ t)
 
 -- the owner of the lock has an operation left
 abbrev pub OwnersGoOn : Type 0
@@ -177,9 +178,8 @@ pub record IsNull (tracks : List PlainTrack) (s : State) (e : Entry) : Type 0 wh
   pub action : Action
   pub next : next_action tracks s e.track ≡ Some action
   pub name : Name
-  pub named : name_of action ≡ Some name
   pub call : SizedCall
-  pub sized : sized_call action ≡ Some call
+  pub sized : deed_of action ≡ calls name call
   pub null : IsNullCall s.held e name call
 
 -- an event answers null exactly where it is such a call
@@ -208,3 +208,12 @@ TracesAreOfBlocks = (tracks : List PlainTrack) (es : List Entry) (name : Name) (
     → IsLegal tracks es → trace_in (last_state tracks es).held.tracing (of_block name) ≡ Some trace
     → (block : Block) × (find (last_state tracks es).held.blocks name ≡ Some block)
     × (size_of block.body ≡ trace.size)
+
+-- ---- snapshots
+
+-- where the operations of each track are in their ranges, a snapshot rises by the keys of its traces, no two of which
+-- are the same, and each trace keeps as many frames as its limit allows
+abbrev pub SnapshotsAreSound : Type 0
+SnapshotsAreSound = (tracks : List PlainTrack) (es : List Entry) (name : Name) (snapshot : PlainSnapshot)
+    → AllByRecursion FitsTrack tracks → IsLegal tracks es
+    → find (last_state tracks es).held.snapshots name ≡ Some snapshot → IsSnapshot snapshot

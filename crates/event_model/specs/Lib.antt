@@ -1,4 +1,5 @@
 pub mod Blocks
+pub mod Deeds
 pub mod Effects
 pub mod Events
 pub mod Frames
@@ -10,5 +11,6 @@ pub mod Plans
 pub mod Replies
 pub mod Schedule
 pub mod Shape
+pub mod Snapshots
 pub mod State
 pub mod Tracing

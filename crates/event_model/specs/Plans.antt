@@ -5,6 +5,7 @@ use Rattle.mem_base.specs.declared.trace.Side.{Side}
 use Rattle.mem_base.specs.declared.history.Entry.{Entry}
 use Rattle.request_model.specs.Counts.{asks_in, refusals_in}
 use Rattle.trace_model.specs.Plain.{Action, PlainTrack}
+use Rattle.event_model.specs.Deeds.{deed_of}
 use Rattle.event_model.specs.Effects.{lists_as}
 use Rattle.event_model.specs.Events.{next_action, event}
 use Rattle.event_model.specs.History.{opening}
@@ -14,7 +15,7 @@ use Rattle.event_model.specs.State.{State}
 -- were made before it
 abbrev pub lists : Side → ℕ → Option Action → ℕ → Bool
 lists s asked None n = false
-lists s asked (Some a) n = lists_as s asked a n
+lists s asked (Some a) n = lists_as s asked (deed_of a) n
 
 -- the operations of entries that come after this state list it
 abbrev pub planned_from : List PlainTrack → Side → State → ℕ → List Entry → ℕ → Bool

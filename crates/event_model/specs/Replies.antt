@@ -11,7 +11,8 @@ use Rattle.mem_base.specs.declared.reply.Reply.TheVariants as replies
 use Rattle.mem_base.specs.declared.reply.View.{View}
 use Rattle.block_model.specs.Block.{Body, report_of}
 use Rattle.frame_model.specs.Frames.{PlainFrame}
-use Rattle.trace_model.specs.Plain.{text_at}
+pub use Rattle.frame_model.specs.Frames.{frame_of, frames_of}
+use Rattle.snapshot_model.specs.Stats.{PlainGroup, plain_group}
 
 -- what an operation answers
 pub data PlainReply : Type 0 where
@@ -23,11 +24,16 @@ pub data PlainReply : Type 0 where
   held : PlainReply
   not_held : PlainReply
   not_tracing : PlainReply
+  no_snapshot : PlainReply
   untraced : PlainReply
   -- the bytes that are traced, and the most that were
   traced : (current most : ℕ) → PlainReply
   -- the frames that a trace keeps, oldest first, and how many there were
-  frames : (kept : List PlainFrame) → (total : ℕ) → PlainReply
+  frames : (fs : List PlainFrame) → (total : ℕ) → PlainReply
+  -- how many traces a snapshot has
+  kept : (count : ℕ) → PlainReply
+  -- how many groups the statistics have, and the first of them, from the greatest on
+  groups : (count : ℕ) → List PlainGroup → PlainReply
   bytes : List ℕ → PlainReply
   -- the heap's shape
   shape : View → PlainReply
@@ -45,9 +51,12 @@ is_fault outside = false
 is_fault held = false
 is_fault not_held = false
 is_fault not_tracing = false
+is_fault no_snapshot = false
 is_fault untraced = false
 is_fault (traced current most) = false
-is_fault (frames kept total) = false
+is_fault (frames fs total) = false
+is_fault (kept count) = false
+is_fault (groups count first) = false
 is_fault (bytes found) = false
 is_fault (shape view) = false
 is_fault (fault found block) = true
@@ -70,20 +79,20 @@ is_ok outside = false
 is_ok held = false
 is_ok not_held = false
 is_ok not_tracing = false
+is_ok no_snapshot = false
 is_ok untraced = false
 is_ok (traced current most) = false
-is_ok (frames kept total) = false
+is_ok (frames fs total) = false
+is_ok (kept count) = false
+is_ok (groups count first) = false
 is_ok (bytes found) = false
 is_ok (shape view) = false
 is_ok (fault found block) = false
 is_ok unsaid = false
 
--- what a frame of the code stands for, with its file among these texts
-abbrev pub frame_of : List Name → Frame → PlainFrame
-frame_of texts f = record { file = text_at texts f.file; line = f.line }
-
-abbrev pub frames_of : List Name → List Frame → List PlainFrame
-frames_of texts fs = map (frame_of texts) fs
+-- the files of frames are in a table of so many texts
+abbrev pub AreKnownFrames : ℕ → List Frame → Type 0
+AreKnownFrames texts fs = AllByRecursion (λ f. f.file.0 < texts) fs
 
 -- each number of a text that a reply of the code says is in a table of so many
 abbrev pub IsKnownReply : ℕ → Reply → Type 0
@@ -100,9 +109,9 @@ IsKnownReply texts replies.Untraced = Unit {0}
 IsKnownReply texts (replies.Bytes found) = Unit {0}
 IsKnownReply texts (replies.Traced current most) = Unit {0}
 IsKnownReply texts (replies.Kept count) = Unit {0}
-IsKnownReply texts (replies.Frames kept total) = AllByRecursion (λ f. f.file.0 < texts) kept
-IsKnownReply texts (replies.Groups count groups) = Unit {0}
-IsKnownReply texts (replies.Diffs count diffs) = Unit {0}
+IsKnownReply texts (replies.Frames fs total) = AreKnownFrames texts fs
+IsKnownReply texts (replies.Groups count first) = AllByRecursion (λ g. AreKnownFrames texts g.key) first
+IsKnownReply texts (replies.Diffs count first) = Unit {0}
 IsKnownReply texts (replies.Dumped text) = Unit {0}
 IsKnownReply texts (replies.Heap view) = Unit {0}
 IsKnownReply texts (replies.Fault found block) = Unit {0}
@@ -117,14 +126,14 @@ plain_reply texts replies.Outside = outside
 plain_reply texts replies.Held = held
 plain_reply texts replies.NotHeld = not_held
 plain_reply texts replies.NotTracing = not_tracing
-plain_reply texts replies.NoSnapshot = unsaid
+plain_reply texts replies.NoSnapshot = no_snapshot
 plain_reply texts replies.Untraced = untraced
 plain_reply texts (replies.Bytes found) = bytes found
 plain_reply texts (replies.Traced current most) = traced current most
-plain_reply texts (replies.Kept count) = unsaid
-plain_reply texts (replies.Frames kept total) = frames (frames_of texts kept) total
-plain_reply texts (replies.Groups count groups) = unsaid
-plain_reply texts (replies.Diffs count diffs) = unsaid
+plain_reply texts (replies.Kept count) = kept count
+plain_reply texts (replies.Frames fs total) = frames (frames_of texts fs) total
+plain_reply texts (replies.Groups count first) = groups count (map (plain_group texts) first)
+plain_reply texts (replies.Diffs count first) = unsaid
 plain_reply texts (replies.Dumped text) = unsaid
 plain_reply texts (replies.Heap view) = shape view
 plain_reply texts (replies.Fault found block) = fault found block

@@ -4,6 +4,7 @@ use Rattle.frame_model.specs.Frames.{PlainFrame}
 use Rattle.tracing_model.specs.Tracing.{Tracing}
 use Rattle.layout_model.specs.Layout.{Layout}
 use Rattle.event_model.specs.Blocks.{Blocks}
+use Rattle.event_model.specs.Snapshots.{Snapshots}
 
 -- what operations work on
 pub record Held : Type 0 where
@@ -16,6 +17,8 @@ pub record Held : Type 0 where
   pub frames : List (List PlainFrame)
   -- the traces of blocks and of marked numbers, while anything is traced
   pub tracing : Option Tracing
+  -- the snapshots by their names
+  pub snapshots : Snapshots
 
 -- a run between two events
 pub record State : Type 0 where

@@ -5,13 +5,15 @@
 //!
 //! | Part | Holds | Changes |
 //! |---|---|---|
-//! | `held` | blocks by name, layout of pools and arenas, the lock's owner, frames, what is traced | by an operation |
+//! | `held` | blocks by name, layout of pools and arenas, the lock's owner, frames, what is traced, snapshots | by an operation |
 //! | `done` | how many operations each track has done | after each event that is no fault |
 //! | `faulted` | whether a fault has come | with the first fault, which is the last event |
 //!
 //! An event is the next operation of a track, with what the sources answered. It comes in four steps:
 //!
-//! 1. `effect` says what the operation does to `held` and answers. It sees nothing else, so no operation
+//! 1. `deed_of` says what the operation comes to: `malloc`, `calloc` and `realloc`, as an example, are all calls
+//!    for a block. All that follows is said of that, so one more call for a block is one line there.
+//!    `effect` says what the operation does to `held` and answers. It sees nothing else, so no operation
 //!    can change `done` or `faulted`. An operation of a family works on that family's part alone:
 //!    - memory (`malloc`, `calloc`, `realloc`, `free`, `poke`, `peek`): the block of one name, and the
 //!      layout. This is what `_PyMem_DebugRawMalloc`, `_PyMem_DebugRawCalloc`, `_PyMem_DebugRawRealloc`,
@@ -24,6 +26,9 @@
 //!    - tracing (`start`, `stop`, `clear`, `reset_peak`, `traced`, `mark`, `unmark`, `where`): nothing here.
 //!      `traced` answers what `_PyTraceMalloc_GetTracedMemory` does, and `where` what is kept under a
 //!      block's name, as `_PyTraceMalloc_GetObjectTraceback` does;
+//!    - snapshots (`snapshot`, `keep`, `stats`): the snapshot of one name. `snapshot` keeps what is traced then, as
+//!      `_PyTraceMalloc_GetTraces` copies it, `keep` what rules leave of a snapshot, and `stats` answers its
+//!      statistics, as `filter_traces` and `statistics` of `Lib/tracemalloc.py` do;
 //!    - the heap's shape (`heap`): nothing, it reads what `_PyObject_DebugMallocStats` does;
 //!    - refusals (`refuse`): nothing, the plan of refusals takes down which requests it lists.
 //! 2. `follow` says what is traced then, by the operation, its reply and the frames of its track alone. So
@@ -72,6 +77,7 @@ ghost use Rattle.event_model.specs.Laws.{FreeTakes, OnlyAcquireWaits, OwnersGoOn
 ghost use Rattle.event_model.specs.Laws.{TakesOne, OneMoreFollows, RunsAreStretches};
 ghost use Rattle.event_model.specs.Laws.{LegalFollowsItsRuns, OneMoreIsPlanned, OneMoreHeeds};
 ghost use Rattle.event_model.specs.Laws.{NullExactly, LegalIsSound, FewAreTaken, TracesAreOfBlocks};
+ghost use Rattle.event_model.specs.Laws.{SnapshotsAreSound};
 
 /// A legal history with one more entry that may come next is legal, leads to that entry's event, and
 /// leaves less to do.
@@ -155,4 +161,10 @@ pub fn few_are_taken()
 /// A trace under a block's name belongs to a live block of that name, and has as many bytes as its data.
 pub fn traces_belong_to_blocks()
     ensures { TracesAreOfBlocks }
+{}
+
+/// Where the operations of each track are in their ranges, a snapshot rises by the keys of its traces, no two
+/// of which are the same, and each trace keeps as many frames as its limit allows.
+pub fn snapshots_are_sound()
+    ensures { SnapshotsAreSound }
 {}

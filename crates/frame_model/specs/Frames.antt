@@ -1,11 +1,20 @@
 -- The frames of a track, oldest first, and what is kept of them. F is what a frame is.
 use Rattle.std.specs.Prelude.{ℕ, ◌-◌, max, List, [], ◌∷◌, ◌++◌, length, map, take, drop}
 use Rattle.mem_base.specs.Name.{Name}
+use Rattle.mem_base.specs.Texts.{text_at}
+use Rattle.mem_base.specs.declared.reply.Frame.{Frame}
 
 -- a place in a program: a file by its name, and a line of it
 pub record PlainFrame : Type 0 where
   pub file : Name
   pub line : ℕ
+
+-- what a frame of the code stands for, with its file among these texts
+abbrev pub frame_of : List Name → Frame → PlainFrame
+frame_of texts f = record { file = text_at texts f.file; line = f.line }
+
+abbrev pub frames_of : List Name → List Frame → List PlainFrame
+frames_of texts fs = map (frame_of texts) fs
 
 module _ {F : Type 0} where
   -- the frames with one more call

@@ -1,15 +1,15 @@
 -- The frames of all tracks, and what is known of them as the table grows.
-use Rattle.std.proofs.Common.{◌≡◌, ℕ, zero, suc, ◌-◌, ◌<◌, ◌≤◌, List, [], ◌∷◌, ◌++◌, length, map, take, drop, get_or, set, replicate, slice_get, option_map, Option, Some, None, IfSome, refl, sym, ap, subst, ◌∙◌, inl, inr, arith, Result, Ok, Err, OnOk, OnErr}
+use Rattle.std.proofs.Common.{◌≡◌, ℕ, zero, suc, ◌-◌, ◌<◌, ◌≤◌, List, [], ◌∷◌, ◌++◌, length, map, take, drop, get_or, set, replicate, slice_get, option_map, Option, Some, None, IfSome, refl, sym, ap, subst, ◌∙◌, inl, inr, arith, Result, Ok, Err, OnOk, OnErr, length-append, length-drop}
 use Rattle.std.specs.Prelude.{All, unwrap_or}
 use Rattle.std.proofs.lemmas.Option.{slice_get-map, slice_get_read, slice_get_within}
-use Rattle.std.proofs.lemmas.List.{length-map, map-set}
+use Rattle.std.proofs.lemmas.List.{length-map, length-take, map-set}
 use Rattle.std.proofs.lemmas.List.Elements.{All-nil, All-push, All-replicate, All-set, All-weaker}
 use Rattle.std.proofs.lemmas.Option.{get_or_from_slice_get}
 use Rattle.mem_base.specs.declared.reply.Frame.{Frame}
 use Rattle.frame_model.specs.Frames.{frames_below, frames_on, frames_with, latest, recent}
 use Rattle.frame_stack.specs.declared.callers.Known.{Known}
 use Rattle.frame_stack.specs.declared.callers.Stack.{Stack}
-use Rattle.frame_stack.specs.Tracebacks.{at_line, unknown_frame, IsInterned}
+use Rattle.frame_stack.specs.Tracebacks.{at_line, unknown_frame, IsInterned, IsShort, KeepsNumbers}
 use Rattle.frame_stack.specs.Callers.{AreAmong, AreCallers, CallersView, IsKnown, IsStack, frames_in, frames_of, with_frames}
 
 -- ---- files of frames
@@ -47,6 +47,26 @@ among_recent : (files limit : ℕ) (frames : List Frame) → 1 ≤ files → Are
 among_recent files limit [] some are = (omega (arith, some), tt)
 among_recent files limit (f ∷ fs) some are = among_drop files (length (f ∷ fs) - limit) (f ∷ fs) are
 
+-- ---- few frames
+
+pub short_below : (frames : List Frame) → IsShort frames → IsShort (frames_below frames)
+short_below frames short = omega (arith, short, length-take (length frames - 1) frames)
+
+pub short_on : (line : ℕ) (frames : List Frame) → IsShort frames → IsShort (frames_on (at_line line) frames)
+short_on line frames short =
+    omega (
+      arith,
+      short,
+      length-append (frames_below frames) (map (at_line line) (latest 1 frames)),
+      length-map (latest 1 frames) (at_line line),
+      length-take (length frames - 1) frames,
+      length-drop (length frames - 1) frames,
+    )
+
+short_recent : (limit : ℕ) (frames : List Frame) → IsShort frames → IsShort (recent unknown_frame limit frames)
+short_recent limit [] short = omega arith
+short_recent limit (f ∷ fs) short = omega (arith, short, length-drop (length (f ∷ fs) - limit) (f ∷ fs))
+
 -- ---- numbers in a table that grows
 
 grown : (table : List (List Frame)) (t u : List Frame) (i : ℕ) → slice_get table i ≡ Some u → slice_get (table ++ t ∷ []) i ≡ Some u
@@ -55,7 +75,7 @@ grown (x ∷ xs) t u zero at = at
 grown (x ∷ xs) t u (suc i) at = grown xs t u i at
 
 -- a number means the same frames once more frames have one
-pub stays : (t : List Frame) (old new : List (List Frame)) → IsInterned t old new → (i : ℕ) (u : List Frame) → slice_get old i ≡ Some u → slice_get new i ≡ Some u
+pub stays : (t : List Frame) (old new : List (List Frame)) → IsInterned t old new → KeepsNumbers old new
 stays t old new is i u at = elim is [
   | inl there ↦ subst (λ (l : List (List Frame)). slice_get l i ≡ Some u) (sym there.1) at
   | inr added ↦ subst (λ (l : List (List Frame)). slice_get l i ≡ Some u) (sym added.1) (grown old t u i at)
@@ -101,15 +121,17 @@ pub is_stack : (files : ℕ) (stacks : List Stack) (table : List (List Frame)) �
 is_stack files stacks table are t s lt at = subst (IsStack files table) (sym at) (are.each t s lt)
 
 -- one stack changes to one of which nothing is known
-pub changed_are : (files : ℕ) (stacks : List Stack) (table : List (List Frame)) → AreCallers files stacks table → (t : ℕ) (now : Stack) → AreAmong files now.frames → now.known ≡ None
+pub changed_are : (files : ℕ) (stacks : List Stack) (table : List (List Frame)) → AreCallers files stacks table → (t : ℕ) (now : Stack) → AreAmong files now.frames → IsShort now.frames → now.known ≡ None
     → AreCallers files (set stacks t now) table
-changed_are files stacks table are t now among none = record {
+changed_are files stacks table are t now among short none = record {
   some = are.some;
   each = All-set (IsStack files table) stacks t now (record {
     among = among;
+    short = short;
     known = subst (λ (o : Option Known). IfSome o (λ k. slice_get table k.trace.0 ≡ Some (recent unknown_frame k.limit now.frames))) (sym none) tt;
   }) are.each;
   among = are.among;
+  short = are.short;
 }
 
 -- a stack comes to have a number that is known, or there was no memory and the table is as it was
@@ -124,23 +146,31 @@ recent_are files stacks old new are t limit was now lt at same known r is kept_a
     here : IsStack files old was
     here = is_stack files stacks old are t was lt at
 
-    with_table : All (IsStack files new) stacks → All (AreAmong files) new → AreCallers files (set stacks t now) new
-    with_table others among = record {
+    with_table : All (IsStack files new) stacks → All (AreAmong files) new → All IsShort new → AreCallers files (set stacks t now) new
+    with_table others among short = record {
       some = are.some;
-      each = All-set (IsStack files new) stacks t now (record { among = subst (AreAmong files) (sym same) here.among; known = known }) others;
+      each = All-set (IsStack files new) stacks t now (record {
+        among = subst (AreAmong files) (sym same) here.among;
+        short = subst IsShort (sym same) here.short;
+        known = known;
+      }) others;
       among = among;
+      short = short;
     }
 
     added : IsInterned kept old new → AreCallers files (set stacks t now) new
     added is =
-        with_table (All-weaker (IsStack files old) (IsStack files new) (λ s h. record { among = h.among; known = stays_known kept old new is s h.known }) stacks are.each) (elim is [
+        with_table (All-weaker (IsStack files old) (IsStack files new) (λ s h. record { among = h.among; short = h.short; known = stays_known kept old new is s h.known }) stacks are.each) (elim is [
           | inl there ↦ subst (All (AreAmong files)) (sym there.1) are.among
           | inr more ↦ subst (All (AreAmong files)) (sym more.1) (All-push (AreAmong files) old kept are.among (among_recent files limit was.frames are.some here.among))
+        ]) (elim is [
+          | inl there ↦ subst (All IsShort) (sym there.1) are.short
+          | inr more ↦ subst (All IsShort) (sym more.1) (All-push IsShort old kept are.short (short_recent limit was.frames here.short))
         ])
 
     by : {A E : Type 0} (r : Result A E) → OnOk r (IsInterned kept old new) → OnErr r (new ≡ old) → AreCallers files (set stacks t now) new
     by (Ok a) is none = added is
-    by (Err e) none same_table = with_table (subst (λ (l : List (List Frame)). All (IsStack files l) stacks) (sym same_table) are.each) (subst (All (AreAmong files)) (sym same_table) are.among)
+    by (Err e) none same_table = with_table (subst (λ (l : List (List Frame)). All (IsStack files l) stacks) (sym same_table) are.each) (subst (All (AreAmong files)) (sym same_table) are.among) (subst (All IsShort) (sym same_table) are.short)
 
 -- the frames of a traceback are of files
 pub table_among : (files : ℕ) (table : List (List Frame)) (i : ℕ) (u : List Frame) → All (AreAmong files) table → slice_get table i ≡ Some u → AreAmong files u
@@ -155,8 +185,9 @@ no_frames_in (suc n) = ap (λ (l : List (List Frame)). [] ∷ l) (no_frames_in n
 pub opening_are : (files n : ℕ) → 1 ≤ files → AreCallers files (replicate n (record { frames = []; known = None })) []
 opening_are files n some = record {
   some = some;
-  each = All-replicate (IsStack files []) n (record { frames = []; known = None }) (record { among = tt; known = tt });
+  each = All-replicate (IsStack files []) n (record { frames = []; known = None }) (record { among = tt; short = omega arith; known = tt });
   among = All-nil (AreAmong files);
+  short = All-nil IsShort;
 }
 
 module _ (c : CallersView) (files : ℕ) (stacks : List Stack) (table : List (List Frame)) (view : record { files = files; frames = frames_in stacks; table = table } ≡ c)

@@ -3,7 +3,7 @@ use Rattle.std.specs.Prelude.{◌≡◌, ℕ, ◌<◌, ◌≤◌, List, [], map,
 use Rattle.std.specs.List.{AllByRecursion}
 use Rattle.mem_base.specs.declared.reply.Frame.{Frame}
 use Rattle.frame_model.specs.Frames.{recent}
-use Rattle.frame_stack.specs.Tracebacks.{unknown_frame}
+use Rattle.frame_stack.specs.Tracebacks.{unknown_frame, IsShort}
 use Rattle.frame_stack.specs.declared.callers.Stack.{Stack}
 
 -- how many files there are, the frames of each track, the oldest first, and the table of tracebacks
@@ -33,13 +33,15 @@ abbrev pub IsKnown : List (List Frame) → Stack → Type 0
 IsKnown table s =
     IfSome s.known (λ k. slice_get table k.trace.0 ≡ Some (recent unknown_frame k.limit s.frames))
 
--- a stack of frames whose files are among so many, with what is known of it
+-- a stack of few frames whose files are among so many, with what is known of it
 pub record IsStack (files : ℕ) (table : List (List Frame)) (s : Stack) : Type 0 where
   pub among : AreAmong files s.frames
+  pub short : IsShort s.frames
   pub known : IsKnown table s
 
--- there is a file, the unknown one, and all frames are of files, in the stacks and in the table
+-- there is a file, the unknown one, and all frames are of files and few, in the stacks and in the table
 pub record AreCallers (files : ℕ) (stacks : List Stack) (table : List (List Frame)) : Type 0 where
   pub some : 1 ≤ files
   pub each : All (IsStack files table) stacks
   pub among : All (AreAmong files) table
+  pub short : All IsShort table

@@ -12,12 +12,12 @@
 //!
 //! Always, a known number is that of the frames beside it. Tracebacks are only added to the table, so a
 //! number means the same frames later.
-ghost use Rattle.std.specs.Prelude.{◌≡◌, ◌<◌, ◌≤◌, [], length, replicate, slice_get, IfOk, IfSome, OnOk};
+ghost use Rattle.std.specs.Prelude.{◌≡◌, ◌<◌, ◌≤◌, [], length, replicate, slice_get, All, IfOk, IfSome, OnOk};
 ghost use Rattle.std.specs.Prelude.{OnErr, None, Some};
 ghost use Rattle.mem_base.specs.declared.reply.Frame.{Frame as PlacedAt};
 ghost use Rattle.frame_model.specs.Frames.{frames_below, frames_on, frames_with, recent, total};
 ghost use Rattle.frame_stack.specs.Callers.{frames_of, with_frames, AreAmong, IsKnown};
-ghost use Rattle.frame_stack.specs.Tracebacks.{at_line, unknown_frame, IsInterned};
+ghost use Rattle.frame_stack.specs.Tracebacks.{at_line, unknown_frame, IsInterned, IsShort};
 
 use crate::frames::{Frames, recent};
 use crate::tracebacks::{TbId, Tracebacks};
@@ -62,6 +62,7 @@ impl Stack {
           frames = frames_with self.old.frames (record { file = file; line = line });
           known = None;
         }) }
+        ensures short { OnOk result (IsShort self.new.frames) }
         ensures err { OnErr result (self.new ≡ self.old) }
     {
         if self.frames.is_full() {
@@ -228,5 +229,14 @@ impl Callers {
         ensures among { AreAmong self.now.files result.now }
     {
         self.table.frames(id)
+    }
+
+    /// The table of the tracebacks that were kept.
+    pub fn tracebacks(&self) -> &Tracebacks
+        ensures table { result.now ≡ self.now.table }
+        ensures among { All (AreAmong self.now.files) self.now.table }
+        ensures short { All IsShort self.now.table }
+    {
+        &self.table
     }
 }

@@ -76,6 +76,7 @@ fn a_number_stays_while_the_frames_do(rt: HostRuntime) -> Result<(), Fail> {
         (first, again, deeper, further, other, back),
         (TbId(0), TbId(0), TbId(1), TbId(2), TbId(3), TbId(0))
     );
+    assert_eq!(rt; callers.tracebacks().len(), 4);
     assert_eq!(rt; (callers.total(1), callers.total(0)), (1, 1));
     Ok(())
 }

@@ -4,6 +4,7 @@ use Rattle.std.proofs.Common.{subst, ◌∙◌, arith, true≢false}
 use Rattle.std.specs.Prelude.{◌==◌, ◌||◌, OnErr}
 use Rattle.mem_base.specs.Name.{Name}
 use Rattle.mem_base.specs.Plan.{Plan, plan_with}
+use Rattle.mem_base.specs.declared.texts.TextId.{TextId}
 use Rattle.mem_base.specs.declared.trace.Op.{Op}
 use Rattle.mem_base.specs.declared.trace.Op.TheVariants as ops
 use Rattle.mem_base.specs.declared.trace.Side.{Side}
@@ -14,11 +15,18 @@ use Rattle.extents.specs.Sums.{AllIn}
 use Rattle.sources.specs.Holder.{Answered, AskedNothing, Traded}
 use Rattle.sources.specs.Source.{ArenaShape, SourceView}
 use Rattle.sources.proofs.CallerLemmas.{traded_nothing, unrefused_nothing, unrefused_once}
+use Rattle.event_model.specs.Deeds.{Deed, takes_lock, gives_lock, calls, frees, writes_bytes, reads_bytes, moves}
+use Rattle.event_model.specs.Deeds.{changes, marks, asks_traced, asks_trace, takes_snapshot, keeps_by, asks_stats}
+use Rattle.event_model.specs.Deeds.{asks_shape, lists_request, does_nothing}
+use Rattle.event_model.specs.Effects.{is_quiet as is_quiet_deed, lists_as}
+use Rattle.event_model.specs.Memory.{SizedCall}
 use Rattle.event_model.specs.Plans.{GrowsBy, lists}
 use Rattle.domain_api.specs.Held.{AreOut}
 use Rattle.block_store.specs.Sources.{AreHeld, Fails, FailsUnrefused, IsPassedOn, Rests, Serves}
 use Rattle.block_store.specs.Store.{HoldsTheSame, StoreView}
-use Rattle.machine_core.specs.Acts.{Asks, is_quiet, told, told_where}
+use Rattle.machine_core.specs.Acts.{Asks, told, told_where}
+use Rattle.machine_core.specs.Deeds.{IsCallFor, deed_for, is_quiet}
+use Rattle.machine_core.proofs.DeedLemmas.{still_quiet}
 
 -- ---- plans
 
@@ -38,46 +46,31 @@ abbrev pub ListsNone : Op → Side → Type 0
 ListsNone op side = (texts : List Name) (asked n : ℕ) → lists side asked (Some (action_of texts op)) n ≡ false
 
 -- an operation that asks no source lists no request
-pub quiet_lists : (op : Op) (side : Side) → is_quiet op ≡ true → ListsNone op side
-quiet_lists ops.Acquire side quiet = λ texts asked n. refl
-quiet_lists ops.Release side quiet = λ texts asked n. refl
-quiet_lists (ops.Malloc letter name size) side quiet = absurd (true≢false (sym quiet))
-quiet_lists (ops.Calloc letter name count size) side quiet = absurd (true≢false (sym quiet))
-quiet_lists (ops.Realloc letter name size) side quiet = absurd (true≢false (sym quiet))
-quiet_lists (ops.Free letter name) side quiet = absurd (true≢false (sym quiet))
-quiet_lists (ops.Poke name offset bytes) side quiet = λ texts asked n. refl
-quiet_lists (ops.Peek name offset count) side quiet = λ texts asked n. refl
-quiet_lists (ops.Enter file line) side quiet = λ texts asked n. refl
-quiet_lists (ops.Line line) side quiet = λ texts asked n. refl
-quiet_lists ops.Leave side quiet = λ texts asked n. refl
-quiet_lists (ops.Start limit) side quiet = λ texts asked n. refl
-quiet_lists ops.Stop side quiet = λ texts asked n. refl
-quiet_lists ops.Clear side quiet = λ texts asked n. refl
-quiet_lists ops.ResetPeak side quiet = λ texts asked n. refl
-quiet_lists ops.Traced side quiet = λ texts asked n. refl
-quiet_lists (ops.Mark domain number size) side quiet = λ texts asked n. refl
-quiet_lists (ops.Unmark domain number) side quiet = λ texts asked n. refl
-quiet_lists (ops.Origin name) side quiet = λ texts asked n. refl
-quiet_lists (ops.Snapshot name) side quiet = λ texts asked n. refl
-quiet_lists (ops.Keep new old rules) side quiet = λ texts asked n. refl
-quiet_lists (ops.Stats name key cumulative lines) side quiet = λ texts asked n. refl
-quiet_lists (ops.Compare new old key cumulative lines) side quiet = λ texts asked n. refl
-quiet_lists (ops.Dump name) side quiet = λ texts asked n. refl
-quiet_lists ops.Heap side quiet = λ texts asked n. refl
-quiet_lists (ops.Refuse at number) side quiet = absurd (true≢false (sym quiet))
+quiet_lists : (op : Op) (side : Side) → is_quiet op ≡ true → ListsNone op side
+quiet_lists op side quiet = λ texts asked n. by (deed_for texts op) asked n (still_quiet op texts ∙ quiet)
+  where
+    by : (d : Deed) (asked n : ℕ) → is_quiet_deed d ≡ true → lists_as side asked d n ≡ false
+    by takes_lock asked n is = refl
+    by gives_lock asked n is = refl
+    by (calls name call) asked n is = refl
+    by (frees letter name) asked n is = refl
+    by (writes_bytes name offset bytes) asked n is = refl
+    by (reads_bytes name offset count) asked n is = refl
+    by (moves f) asked n is = refl
+    by (changes change) asked n is = refl
+    by (marks change) asked n is = refl
+    by asks_traced asked n is = refl
+    by (asks_trace name) asked n is = refl
+    by (takes_snapshot name) asked n is = refl
+    by (keeps_by new old rules) asked n is = refl
+    by (asks_stats name key cumulative most) asked n is = refl
+    by asks_shape asked n is = refl
+    by (lists_request at k) asked n is = absurd (true≢false (sym is))
+    by does_nothing asked n is = refl
 
--- nor does a request for a block, or a free
-pub malloc_lists : (op : Op) (side : Side) (letter : _) (name : _) (size : ℕ) → op ≡ ops.Malloc letter name size
-    → ListsNone op side
-malloc_lists op side letter name size is = subst (λ (o : Op). ListsNone o side) (sym is) (λ texts asked n. refl)
-
-pub calloc_lists : (op : Op) (side : Side) (letter : _) (name : _) (count size : ℕ)
-    → op ≡ ops.Calloc letter name count size → ListsNone op side
-calloc_lists op side letter name count size is = subst (λ (o : Op). ListsNone o side) (sym is) (λ texts asked n. refl)
-
-pub realloc_lists : (op : Op) (side : Side) (letter : _) (name : _) (size : ℕ) → op ≡ ops.Realloc letter name size
-    → ListsNone op side
-realloc_lists op side letter name size is = subst (λ (o : Op). ListsNone o side) (sym is) (λ texts asked n. refl)
+-- nor does a call for a block, or a free
+pub call_lists : (op : Op) (side : Side) (name : TextId) (call : SizedCall) → IsCallFor op name call → ListsNone op side
+call_lists op side name call is = λ texts asked n. ap (λ (d : Deed). lists_as side asked d n) (is texts)
 
 pub free_lists : (op : Op) (side : Side) (letter : _) (name : _) → op ≡ ops.Free letter name → ListsNone op side
 free_lists op side letter name is = subst (λ (o : Op). ListsNone o side) (sym is) (λ texts asked n. refl)

@@ -2,48 +2,58 @@
 use Rattle.std.proofs.Common.{◌≡◌, ℕ, zero, suc, ◌≤◌, Bool, true, false, cond, List, [], ◌∷◌, length, map}
 use Rattle.std.proofs.Common.{replicate, Option, Some, None, Result, Ok, Err, refl, sym, ap, subst, ◌∙◌, arith, inl}
 use Rattle.std.proofs.Common.{inr, true≢false}
-use Rattle.std.specs.Prelude.{IfOk}
+use Rattle.std.specs.Prelude.{IfOk, IfSome}
+use Rattle.std.specs.List.{AllByRecursion}
 use Rattle.std.proofs.lemmas.Option.{slice_get_within}
 use Rattle.mem_base.specs.Name.{Name}
-use Rattle.mem_base.specs.Texts.{IsTable}
+use Rattle.mem_base.specs.Texts.{IsTable, text_at}
 use Rattle.mem_base.specs.declared.history.Ask.{Ask}
 use Rattle.mem_base.specs.declared.history.Grant.{Grant}
 use Rattle.mem_base.specs.declared.reply.Fault.{Fault}
 use Rattle.mem_base.specs.declared.reply.Frame.{Frame}
+use Rattle.mem_base.specs.declared.reply.Group.{Group}
 use Rattle.mem_base.specs.declared.reply.Reply.{Reply}
 use Rattle.mem_base.specs.declared.reply.Reply.TheVariants as replies
 use Rattle.mem_base.specs.declared.trace.Op.{Op}
-use Rattle.mem_base.specs.declared.trace.Op.TheVariants as ops
 use Rattle.layout_model.specs.Layout.{Layout}
 use Rattle.frame_model.specs.Frames.{PlainFrame}
 use Rattle.tracing_model.specs.Tracing.{Tracing, Change, gets, forgets, starts, stops, clears, resets, keeps, after}
-use Rattle.trace_model.specs.Plain.{action_of, text_at}
 use Rattle.map_model.specs.Map.{find}
+use Rattle.snapshot_model.specs.Stats.{PlainGroup, plain_group}
 use Rattle.request_model.specs.Decision.{Decision, too_great, faults, asks, max_size}
 use Rattle.request_model.proofs.CallerLemmas.{Decides, over_all, faulty, over_data, within, decides}
 use Rattle.event_model.specs.Blocks.{Block}
-use Rattle.event_model.specs.Effects.{effect, follow}
+use Rattle.event_model.specs.Deeds.{Deed, takes_lock, gives_lock, calls, frees, writes_bytes, reads_bytes, moves}
+use Rattle.event_model.specs.Deeds.{changes, marks, asks_traced, asks_trace, takes_snapshot, keeps_by, asks_stats}
+use Rattle.event_model.specs.Deeds.{asks_shape, lists_request, does_nothing}
+use Rattle.event_model.specs.Effects.{change_of, effect, follow, is_quiet as is_quiet_deed, tracing_after}
 use Rattle.event_model.specs.Frames.{frames_at}
-use Rattle.event_model.specs.Memory.{SizedCall, Turn, calloc_call, came_to, change_turn, finding_of, malloc_call}
-use Rattle.event_model.specs.Memory.{new_block_turn, realloc_call, sized_turn, turn_to}
+use Rattle.event_model.specs.Memory.{SizedCall, Turn, came_to, change_turn, finding_of, new_block_turn, sized_turn}
+use Rattle.event_model.specs.Memory.{turn_to}
 use Rattle.event_model.specs.Replies.{PlainReply, IsKnownReply, ok, null, busy, absent, outside, held, not_held}
-use Rattle.event_model.specs.Replies.{not_tracing, untraced, traced, frames, bytes, shape, fault, unsaid, frame_of}
+use Rattle.event_model.specs.Replies.{not_tracing, no_snapshot, untraced, traced, frames, groups, bytes, shape, fault}
+use Rattle.event_model.specs.Replies.{kept as kept_traces, unsaid, frame_of, AreKnownFrames}
 use Rattle.event_model.specs.Replies.{frames_of, is_fault, is_ok, plain_reply}
 use Rattle.event_model.specs.State.{Held, is_owner}
-use Rattle.event_model.specs.Tracing.{change_of, tracing_after, unknown_frame, where_ok}
+use Rattle.event_model.specs.Tracing.{unknown_frame, where_ok}
 use Rattle.domain_api.specs.declared.answers.Asked.{Asked}
 use Rattle.block_store.specs.Store.{IsTurn, StoreView}
 use Rattle.block_store.specs.declared.answer.Answer.{Answer}
 use Rattle.frame_stack.specs.Callers.{CallersView}
+use Rattle.trace_table.specs.Ranks.{AreRanks}
 use Rattle.trace_table.specs.Tracing.{HoldsTheSame, TracingView}
+use Rattle.snap_store.specs.Stand.{SnapshotsStand, SnapshotsView}
+use Rattle.snap_store.proofs.CallerLemmas.{stand_later}
 use Rattle.trace_table.specs.declared.key.TraceKey.TheVariants as keys
-use Rattle.machine_core.specs.Acts.{Acts, Affects, Done, HasEffect, is_quiet}
+use Rattle.machine_core.specs.Acts.{Acts, ActsAmong, Affects, AffectsAmong, Done, HasEffect}
+use Rattle.machine_core.specs.Deeds.{deed_for, is_quiet}
 use Rattle.machine_core.specs.Held.{Holds, IsAsItWas, StandsFor}
 use Rattle.machine_core.specs.Prepared.{ComesToNothing, IsPrepared, IsPreparedFor, IsTraceBy, Makes, MakesWhere}
 use Rattle.machine_core.specs.Traces.{TracesStand}
 use Rattle.machine_core.specs.declared.held.Held.{Held as Holding}
 use Rattle.machine_core.specs.declared.traces.Prepared.{Prepared}
 use Rattle.machine_core.specs.declared.traces.Prepared.TheVariants as prepared
+use Rattle.machine_core.proofs.DeedLemmas.{still_quiet}
 use Rattle.machine_core.proofs.FrameLemmas.{trace_named}
 use Rattle.machine_core.proofs.TraceLemmas.{forgets_stand, gets_stand, idle_stands, keeps_stand, traces_stay}
 
@@ -53,7 +63,7 @@ pub same_tracing : (now : TracingView) → HoldsTheSame now now
 same_tracing now = record { limit = refl; each = λ key. refl; bytes = refl; peak = refl }
 
 pub unchanged : (now : Holding) → IsAsItWas now now
-unchanged now = record { store = refl; owner = refl; callers = refl; numbers = λ i fs at. at; tracing = same_tracing now.tracing }
+unchanged now = record { store = refl; owner = refl; callers = refl; numbers = λ i fs at. at; tracing = same_tracing now.tracing; ranks = refl; snapshots = refl }
 
 -- what stood for what is held by name stands for it still
 pub as_it_was_stands : (texts : List Name) (old new : Holding) (h : Held) → IsAsItWas old new
@@ -66,6 +76,9 @@ as_it_was_stands texts old new h same stands = record {
   frames = stands.frames ∙ ap (λ (c : CallersView). map (frames_of texts) c.frames) (sym same.callers);
   traces = traces_stay texts old.callers.table new.callers.table old.tracing new.tracing h.tracing same.numbers
       same.tracing stands.traces;
+  ranks = subst (λ (r : Option (List ℕ)). IfSome r (AreRanks texts)) (sym same.ranks) stands.ranks;
+  snapshots = subst (λ (s : SnapshotsView). SnapshotsStand texts new.callers.table s h.snapshots) (sym same.snapshots)
+      (stand_later texts old.callers.table new.callers.table same.numbers old.snapshots h.snapshots stands.snapshots);
 }
 
 -- ---- over what the operation itself did
@@ -73,7 +86,7 @@ as_it_was_stands texts old new h same stands = record {
 module _ (texts : List Name) (h : Held) (t : ℕ) (op : Op) (asked : Asked) (mid new : Holding) (reply : Reply)
     (e : HasEffect texts h t op asked mid reply) (others : new ≡ record mid { tracing = new.tracing }) where
   abbrev left : Held × PlainReply
-  left = effect h t (action_of texts op) asked.arena asked.raw
+  left = effect h t (deed_for texts op) asked.arena asked.raw
 
   -- all but what is traced is as it was
   with_traces : (g : Held) (tracing : Option Tracing) → StandsFor texts mid g
@@ -86,23 +99,26 @@ module _ (texts : List Name) (h : Held) (t : ℕ) (op : Op) (asked : Asked) (mid
     files = ap (λ (n : Holding). n.callers.files) others ∙ stands.files;
     frames = stands.frames ∙ ap (λ (n : Holding). map (frames_of texts) n.callers.frames) (sym others);
     traces = subst (λ (n : Holding). TracesStand texts n.callers.table new.tracing tracing) (sym others) traces;
+    ranks = subst (λ (n : Holding). IfSome n.ranks (AreRanks texts)) (sym others) stands.ranks;
+    snapshots = subst (λ (n : Holding). SnapshotsStand texts n.callers.table n.snapshots g.snapshots) (sym others)
+        stands.snapshots;
   }
 
   pub follows : (is_fault left.1 ≡ true → new.tracing ≡ mid.tracing)
       → ((g : Held) → StandsFor texts mid g
       → TracesStand texts mid.callers.table new.tracing
-      (tracing_after (frames_at g.frames t) (action_of texts op) left.1 g.tracing))
+      (tracing_after (frames_at g.frames t) (deed_for texts op) left.1 g.tracing))
       → Done texts h t op asked new reply
   follows at_fault then_traced = record { held = by (is_fault left.1) refl e.held; answer = e.answer; fits = e.fits }
     where
       by : (b : Bool) → is_fault left.1 ≡ b → StandsFor texts mid (cond b h left.0)
-          → StandsFor texts new (cond b h (follow t (action_of texts op) left).0)
+          → StandsFor texts new (cond b h (follow t (deed_for texts op) left).0)
       by true fell stands =
           with_traces h h.tracing stands
           (subst (λ (v : TracingView). TracesStand texts mid.callers.table v h.tracing) (sym (at_fault fell))
           stands.traces)
       by false sound stands = with_traces left.0
-          (tracing_after (frames_at left.0.frames t) (action_of texts op) left.1 left.0.tracing) stands
+          (tracing_after (frames_at left.0.frames t) (deed_for texts op) left.1 left.0.tracing) stands
           (then_traced left.0 stands)
 
 -- what is traced goes on
@@ -114,16 +130,21 @@ goes_on texts table now fs t change is stands =
     (keeps_stand texts table fs now t stands)
 
 -- an operation that means nothing for what is traced
-pub kept : (t : ℕ) (op : Op) (old new : Holding) (asked : Asked) (reply : Reply)
-    → ((texts : List Name) (r : PlainReply) → change_of (action_of texts op) r ≡ keeps)
-    → Affects t op old new asked reply
-    → Acts t op old new asked reply
-kept t op old new asked reply keep affects = λ texts h table stands.
-    let e = affects texts h table stands in
-    let r = effect h t (action_of texts op) asked.arena asked.raw in
+pub kept_among : (texts : List Name) (t : ℕ) (op : Op) (old new : Holding) (asked : Asked) (reply : Reply)
+    → ((r : PlainReply) → change_of (deed_for texts op) r ≡ keeps)
+    → AffectsAmong texts t op old new asked reply → ActsAmong texts t op old new asked reply
+kept_among texts t op old new asked reply keep affects = λ h table stands.
+    let e = affects h table stands in
+    let r = effect h t (deed_for texts op) asked.arena asked.raw in
     follows texts h t op asked new new reply e refl (λ fell. refl)
     (λ g there. goes_on texts new.callers.table new.tracing (frames_at g.frames t) g.tracing
-    (change_of (action_of texts op) r.1) (keep texts r.1) there.traces)
+    (change_of (deed_for texts op) r.1) (keep r.1) there.traces)
+
+pub kept : (t : ℕ) (op : Op) (old new : Holding) (asked : Asked) (reply : Reply)
+    → ((texts : List Name) (r : PlainReply) → change_of (deed_for texts op) r ≡ keeps)
+    → Affects t op old new asked reply
+    → Acts t op old new asked reply
+kept t op old new asked reply keep affects = λ texts. kept_among texts t op old new asked reply (keep texts) (affects texts)
 
 -- ---- an operation that may ask a source
 
@@ -169,75 +190,50 @@ gets_size resets = 0
 gets_size keeps = 0
 
 -- what an ok brings is small enough for a block
-pub small_where_ok : (texts : List Name) (h : Held) (t : ℕ) (op : Op) (asked : Asked) → is_quiet op ≡ false
-    → is_ok (effect h t (action_of texts op) asked.arena asked.raw).1 ≡ true
-    → gets_size (change_of (action_of texts op) ok) ≤ max_size
-small_where_ok texts h t ops.Acquire asked asking is = absurd (true≢false asking)
-small_where_ok texts h t ops.Release asked asking is = absurd (true≢false asking)
-small_where_ok texts h t (ops.Malloc letter name size) asked asking is =
-    sized_small (malloc_call letter size) (is_owner h.owner t) asked.arena asked.raw h.layout
-    (find h.blocks (text_at texts name)) is
-small_where_ok texts h t (ops.Calloc letter name count size) asked asking is =
-    sized_small (calloc_call letter count size) (is_owner h.owner t) asked.arena asked.raw h.layout
-    (find h.blocks (text_at texts name)) is
-small_where_ok texts h t (ops.Realloc letter name size) asked asking is =
-    sized_small (realloc_call letter size) (is_owner h.owner t) asked.arena asked.raw h.layout
-    (find h.blocks (text_at texts name)) is
-small_where_ok texts h t (ops.Free letter name) asked asking is = omega arith
-small_where_ok texts h t (ops.Poke name offset written) asked asking is = absurd (true≢false asking)
-small_where_ok texts h t (ops.Peek name offset count) asked asking is = absurd (true≢false asking)
-small_where_ok texts h t (ops.Enter file line) asked asking is = absurd (true≢false asking)
-small_where_ok texts h t (ops.Line line) asked asking is = absurd (true≢false asking)
-small_where_ok texts h t ops.Leave asked asking is = absurd (true≢false asking)
-small_where_ok texts h t (ops.Start limit) asked asking is = absurd (true≢false asking)
-small_where_ok texts h t ops.Stop asked asking is = absurd (true≢false asking)
-small_where_ok texts h t ops.Clear asked asking is = absurd (true≢false asking)
-small_where_ok texts h t ops.ResetPeak asked asking is = absurd (true≢false asking)
-small_where_ok texts h t ops.Traced asked asking is = absurd (true≢false asking)
-small_where_ok texts h t (ops.Mark domain number size) asked asking is = absurd (true≢false asking)
-small_where_ok texts h t (ops.Unmark domain number) asked asking is = absurd (true≢false asking)
-small_where_ok texts h t (ops.Origin name) asked asking is = absurd (true≢false asking)
-small_where_ok texts h t (ops.Snapshot name) asked asking is = absurd (true≢false asking)
-small_where_ok texts h t (ops.Keep new old rules) asked asking is = absurd (true≢false asking)
-small_where_ok texts h t (ops.Stats name key cumulative lines) asked asking is = absurd (true≢false asking)
-small_where_ok texts h t (ops.Compare new old key cumulative lines) asked asking is = absurd (true≢false asking)
-small_where_ok texts h t (ops.Dump name) asked asking is = absurd (true≢false asking)
-small_where_ok texts h t ops.Heap asked asking is = absurd (true≢false asking)
-small_where_ok texts h t (ops.Refuse side number) asked asking is = omega arith
+small_where_ok : (h : Held) (t : ℕ) (d : Deed) (asked : Asked) → is_quiet_deed d ≡ false
+    → is_ok (effect h t d asked.arena asked.raw).1 ≡ true → gets_size (change_of d ok) ≤ max_size
+small_where_ok h t takes_lock asked asking is = absurd (true≢false asking)
+small_where_ok h t gives_lock asked asking is = absurd (true≢false asking)
+small_where_ok h t (calls name call) asked asking is =
+    sized_small call (is_owner h.owner t) asked.arena asked.raw h.layout (find h.blocks name) is
+small_where_ok h t (frees letter name) asked asking is = omega arith
+small_where_ok h t (writes_bytes name offset written) asked asking is = absurd (true≢false asking)
+small_where_ok h t (reads_bytes name offset count) asked asking is = absurd (true≢false asking)
+small_where_ok h t (moves f) asked asking is = absurd (true≢false asking)
+small_where_ok h t (changes change) asked asking is = absurd (true≢false asking)
+small_where_ok h t (marks change) asked asking is = absurd (true≢false asking)
+small_where_ok h t asks_traced asked asking is = absurd (true≢false asking)
+small_where_ok h t (asks_trace name) asked asking is = absurd (true≢false asking)
+small_where_ok h t (takes_snapshot name) asked asking is = absurd (true≢false asking)
+small_where_ok h t (keeps_by later old rules) asked asking is = absurd (true≢false asking)
+small_where_ok h t (asks_stats name key cumulative most) asked asking is = absurd (true≢false asking)
+small_where_ok h t asks_shape asked asking is = absurd (true≢false asking)
+small_where_ok h t (lists_request side number) asked asking is = omega arith
+small_where_ok h t does_nothing asked asking is = absurd (true≢false asking)
 
 -- it means for what is traced what an ok means, or nothing
-only_ok : (texts : List Name) (op : Op) (r : PlainReply) → is_quiet op ≡ false
-    → change_of (action_of texts op) r ≡ where_ok r (change_of (action_of texts op) ok)
-only_ok texts ops.Acquire r asking = absurd (true≢false asking)
-only_ok texts ops.Release r asking = absurd (true≢false asking)
-only_ok texts (ops.Malloc letter name size) r asking = refl
-only_ok texts (ops.Calloc letter name count size) r asking = refl
-only_ok texts (ops.Realloc letter name size) r asking = refl
-only_ok texts (ops.Free letter name) r asking = refl
-only_ok texts (ops.Poke name offset written) r asking = absurd (true≢false asking)
-only_ok texts (ops.Peek name offset count) r asking = absurd (true≢false asking)
-only_ok texts (ops.Enter file line) r asking = absurd (true≢false asking)
-only_ok texts (ops.Line line) r asking = absurd (true≢false asking)
-only_ok texts ops.Leave r asking = absurd (true≢false asking)
-only_ok texts (ops.Start limit) r asking = absurd (true≢false asking)
-only_ok texts ops.Stop r asking = absurd (true≢false asking)
-only_ok texts ops.Clear r asking = absurd (true≢false asking)
-only_ok texts ops.ResetPeak r asking = absurd (true≢false asking)
-only_ok texts ops.Traced r asking = absurd (true≢false asking)
-only_ok texts (ops.Mark domain number size) r asking = absurd (true≢false asking)
-only_ok texts (ops.Unmark domain number) r asking = absurd (true≢false asking)
-only_ok texts (ops.Origin name) r asking = absurd (true≢false asking)
-only_ok texts (ops.Snapshot name) r asking = absurd (true≢false asking)
-only_ok texts (ops.Keep new old rules) r asking = absurd (true≢false asking)
-only_ok texts (ops.Stats name key cumulative lines) r asking = absurd (true≢false asking)
-only_ok texts (ops.Compare new old key cumulative lines) r asking = absurd (true≢false asking)
-only_ok texts (ops.Dump name) r asking = absurd (true≢false asking)
-only_ok texts ops.Heap r asking = absurd (true≢false asking)
-only_ok texts (ops.Refuse side number) r asking = by (is_ok r)
+only_ok : (d : Deed) (r : PlainReply) → is_quiet_deed d ≡ false → change_of d r ≡ where_ok r (change_of d ok)
+only_ok takes_lock r asking = absurd (true≢false asking)
+only_ok gives_lock r asking = absurd (true≢false asking)
+only_ok (calls name call) r asking = refl
+only_ok (frees letter name) r asking = refl
+only_ok (writes_bytes name offset written) r asking = absurd (true≢false asking)
+only_ok (reads_bytes name offset count) r asking = absurd (true≢false asking)
+only_ok (moves f) r asking = absurd (true≢false asking)
+only_ok (changes change) r asking = absurd (true≢false asking)
+only_ok (marks change) r asking = absurd (true≢false asking)
+only_ok asks_traced r asking = absurd (true≢false asking)
+only_ok (asks_trace name) r asking = absurd (true≢false asking)
+only_ok (takes_snapshot name) r asking = absurd (true≢false asking)
+only_ok (keeps_by later old rules) r asking = absurd (true≢false asking)
+only_ok (asks_stats name key cumulative most) r asking = absurd (true≢false asking)
+only_ok asks_shape r asking = absurd (true≢false asking)
+only_ok (lists_request side number) r asking = by (is_ok r)
   where
     by : (b : Bool) → keeps ≡ cond b keeps keeps
     by true = refl
     by false = refl
+only_ok does_nothing r asking = absurd (true≢false asking)
 
 -- a fault is no ok
 fault_not_ok : (r : PlainReply) → is_fault r ≡ true → is_ok r ≡ false
@@ -249,9 +245,12 @@ fault_not_ok outside fell = refl
 fault_not_ok held fell = refl
 fault_not_ok not_held fell = refl
 fault_not_ok not_tracing fell = refl
+fault_not_ok no_snapshot fell = refl
 fault_not_ok untraced fell = refl
 fault_not_ok (traced current most) fell = refl
 fault_not_ok (frames fs total) fell = refl
+fault_not_ok (kept_traces count) fell = refl
+fault_not_ok (groups count first) fell = refl
 fault_not_ok (bytes found) fell = refl
 fault_not_ok (shape view) fell = refl
 fault_not_ok (fault found block) fell = refl
@@ -315,8 +314,7 @@ pub asked_acts : (t : ℕ) (op : Op) (old mid now new : Holding) (asked : Asked)
 asked_acts t op old mid now new asked reply p asking same ready affects others makes rest = λ texts h names stands.
     let before = as_it_was_stands texts old mid h same stands in
     let e = affects texts h names before in
-    let a = action_of texts op in
-    let r = effect h t a asked.arena asked.raw in
+    let r = effect h t (deed_for texts op) asked.arena asked.raw in
     let made : MakesWhere (is_ok r.1) p now.tracing new.tracing =
     subst (λ (x : PlainReply). MakesWhere (is_ok x) p now.tracing new.tracing) e.answer (makes texts) in
     follows texts h t op asked now new reply e rest
@@ -324,35 +322,71 @@ asked_acts t op old mid now new asked reply p asking same ready affects others m
     (λ g there. by_ok texts h names g e.answer before there made (is_ok r.1) refl)
   where
     by_ok : (texts : List Name) (h : Held) (names : IsTable texts) (g : Held)
-        → plain_reply texts reply ≡ (effect h t (action_of texts op) asked.arena asked.raw).1
+        → plain_reply texts reply ≡ (effect h t (deed_for texts op) asked.arena asked.raw).1
         → StandsFor texts mid h → StandsFor texts now g
-        → MakesWhere (is_ok (effect h t (action_of texts op) asked.arena asked.raw).1) p now.tracing new.tracing
-        → (b : Bool) → is_ok (effect h t (action_of texts op) asked.arena asked.raw).1 ≡ b
+        → MakesWhere (is_ok (effect h t (deed_for texts op) asked.arena asked.raw).1) p now.tracing new.tracing
+        → (b : Bool) → is_ok (effect h t (deed_for texts op) asked.arena asked.raw).1 ≡ b
         → TracesStand texts now.callers.table new.tracing
-        (tracing_after (frames_at g.frames t) (action_of texts op)
-        (effect h t (action_of texts op) asked.arena asked.raw).1 g.tracing)
+        (tracing_after (frames_at g.frames t) (deed_for texts op)
+        (effect h t (deed_for texts op) asked.arena asked.raw).1 g.tracing)
     by_ok texts h names g answered before there made true is =
-        let r = (effect h t (action_of texts op) asked.arena asked.raw).1 in
-        let change = change_of (action_of texts op) ok in
-        let meant : change_of (action_of texts op) r ≡ change =
-        only_ok texts op r asking ∙ ap (λ (b : Bool). cond b change keeps) is in
+        let r = (effect h t (deed_for texts op) asked.arena asked.raw).1 in
+        let change = change_of (deed_for texts op) ok in
+        let meant : change_of (deed_for texts op) r ≡ change =
+        only_ok (deed_for texts op) r (still_quiet op texts ∙ asking) ∙ ap (λ (b : Bool). cond b change keeps) is in
         subst (λ (c : Change). TracesStand texts now.callers.table new.tracing
         (after unknown_frame (frames_at g.frames t) c g.tracing)) (sym meant)
         (made_stands texts names t mid now new.tracing g there others before.blocks.size p change (ready texts)
-        (small_where_ok texts h t op asked asking is)
+        (small_where_ok h t (deed_for texts op) asked (still_quiet op texts ∙ asking) is)
         (subst (λ (b : Bool). MakesWhere b p now.tracing new.tracing) is made))
     by_ok texts h names g answered before there made false is =
-        let r = (effect h t (action_of texts op) asked.arena asked.raw).1 in
-        let change = change_of (action_of texts op) ok in
-        let meant : change_of (action_of texts op) r ≡ keeps =
-        only_ok texts op r asking ∙ ap (λ (b : Bool). cond b change keeps) is in
+        let r = (effect h t (deed_for texts op) asked.arena asked.raw).1 in
+        let change = change_of (deed_for texts op) ok in
+        let meant : change_of (deed_for texts op) r ≡ keeps =
+        only_ok (deed_for texts op) r (still_quiet op texts ∙ asking) ∙ ap (λ (b : Bool). cond b change keeps) is in
         subst (λ (v : TracingView). TracesStand texts now.callers.table v
-        (tracing_after (frames_at g.frames t) (action_of texts op) r g.tracing))
+        (tracing_after (frames_at g.frames t) (deed_for texts op) r g.tracing))
         (sym (not_made p now.tracing new.tracing (is_ok r) is made))
         (goes_on texts now.callers.table now.tracing (frames_at g.frames t) g.tracing
-        (change_of (action_of texts op) r) meant there.traces)
+        (change_of (deed_for texts op) r) meant there.traces)
 
 -- ---- replies whose texts are known
+
+-- a frame has another file in other texts
+abbrev many : ℕ → List Name
+many n = replicate (suc n) (0 ∷ [])
+
+differs : (f : Frame) → frame_of [] f ≡ frame_of (many f.file.0) f → ⊥
+differs f e =
+    absurd (omega (arith, ap (λ (p : PlainFrame). length p.file) e, ap (λ (name : Name). length name) (read f.file.0)))
+  where
+    read : (n : ℕ) → text_at (many n) (record { 0 = n }) ≡ 0 ∷ []
+    read zero = refl
+    read (suc n) = read n
+
+-- frames that are the same whatever the texts are say no text
+textless_frames : (texts : ℕ) (fs : List Frame) (is : List PlainFrame) → ((names : List Name) → frames_of names fs ≡ is)
+    → AreKnownFrames texts fs
+textless_frames texts [] is same = tt
+textless_frames texts (f ∷ fs) is same =
+    let both : frames_of [] (f ∷ fs) ≡ frames_of (many f.file.0) (f ∷ fs) = same [] ∙ sym (same (many f.file.0)) in
+    absurd (differs f (let first : frame_of [] f ≡ frame_of (many f.file.0) f = cc in first))
+
+-- and so do groups
+textless_groups : (texts : ℕ) (gs : List Group) (is : List PlainGroup) → ((names : List Name) → map (plain_group names) gs ≡ is)
+    → AllByRecursion (λ g. AreKnownFrames texts g.key) gs
+textless_groups texts [] is same = tt
+textless_groups texts (g ∷ gs) [] same = let none : map (plain_group []) (g ∷ gs) ≡ [] = same [] in absurd cc
+textless_groups texts (g ∷ gs) (i ∷ is) same = (textless_frames texts g.key i.key first, textless_groups texts gs is rest)
+  where
+    first : (names : List Name) → frames_of names g.key ≡ i.key
+    first names =
+        let both : map (plain_group names) (g ∷ gs) ≡ i ∷ is = same names in
+        let one : plain_group names g ≡ i = cc in
+        ap (λ (p : PlainGroup). p.key) one
+
+    rest : (names : List Name) → map (plain_group names) gs ≡ is
+    rest names = let both : map (plain_group names) (g ∷ gs) ≡ i ∷ is = same names in cc
 
 -- a reply that says the same whatever the texts are says no text
 pub textless : (texts : ℕ) (reply : Reply) (r : PlainReply) → ((names : List Name) → plain_reply names reply ≡ r)
@@ -370,21 +404,14 @@ textless texts replies.Untraced r same = tt
 textless texts (replies.Bytes found) r same = tt
 textless texts (replies.Traced current most) r same = tt
 textless texts (replies.Kept count) r same = tt
-textless texts (replies.Frames [] total) r same = tt
-textless texts (replies.Frames (f ∷ fs) total) r same = absurd (differ (same [] ∙ sym (same many)))
-  where
-    many : List Name
-    many = replicate (suc f.file.0) (0 ∷ [])
-
-    read : (n : ℕ) → text_at (replicate (suc n) (0 ∷ [])) (record { 0 = n }) ≡ 0 ∷ []
-    read zero = refl
-    read (suc n) = read n
-
-    differ : plain_reply [] (replies.Frames (f ∷ fs) total) ≡ plain_reply many (replies.Frames (f ∷ fs) total) → ⊥
-    differ e =
-        let first : frame_of [] f ≡ frame_of many f = cc in
-        absurd (omega (arith, ap (λ (p : PlainFrame). length p.file) first, ap (λ (name : Name). length name) (read f.file.0)))
-textless texts (replies.Groups count groups) r same = tt
+textless texts (replies.Frames fs total) r same =
+    textless_frames texts fs (frames_of [] fs)
+    (λ names. let both : plain_reply names (replies.Frames fs total) ≡ plain_reply [] (replies.Frames fs total) =
+    same names ∙ sym (same []) in cc)
+textless texts (replies.Groups count gs) r same =
+    textless_groups texts gs (map (plain_group []) gs)
+    (λ names. let both : plain_reply names (replies.Groups count gs) ≡ plain_reply [] (replies.Groups count gs) =
+    same names ∙ sym (same []) in cc)
 textless texts (replies.Diffs count diffs) r same = tt
 textless texts (replies.Dumped text) r same = tt
 textless texts (replies.Heap view) r same = tt

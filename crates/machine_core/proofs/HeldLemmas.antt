@@ -2,7 +2,7 @@
 use Rattle.std.proofs.Common.{◌≡◌, ℕ, ◌<◌, Bool, true, false, cond, List, length, map, set, Option, Some, None}
 use Rattle.std.proofs.Common.{Result, Ok, Err, ℤ, pos, negsuc, to_z, of_z, w64, refl, sym, ap, subst, ◌∙◌, arith}
 use Rattle.std.proofs.Common.{true≢false}
-use Rattle.std.specs.Prelude.{IfOk}
+use Rattle.std.specs.Prelude.{IfOk, IfSome}
 use Rattle.std.specs.declared.alloc.AllocError.{AllocError}
 use Rattle.std.proofs.lemmas.List.{set-get_or}
 use Rattle.std.proofs.lemmas.Int.{to_z-of_z}
@@ -21,7 +21,7 @@ use Rattle.mem_base.specs.declared.trace.Op.{Op}
 use Rattle.mem_base.specs.declared.trace.Op.TheVariants as ops
 use Rattle.mem_base.specs.declared.trace.Side.{Side}
 use Rattle.block_model.specs.Block.{reaches, peeked, poked}
-use Rattle.trace_model.specs.Plain.{action_of, name_of, text_at}
+use Rattle.mem_base.specs.Texts.{text_at}
 use Rattle.map_model.specs.Map.{find, hold}
 use Rattle.layout_model.specs.Asks.{FitsRequest, Request}
 use Rattle.layout_model.specs.Asks.Request.{NoRequest}
@@ -30,17 +30,16 @@ use Rattle.layout_model.specs.Sizes.{need}
 use Rattle.layout_model.specs.View.{shape_of}
 use Rattle.request_model.specs.Decision.{Decision, too_great, faults, asks, call_fault, request}
 use Rattle.event_model.specs.Blocks.{Block, Blocks, Home}
-use Rattle.event_model.specs.Effects.{effect, on_block, request_of, sized_call}
+use Rattle.event_model.specs.Deeds.{Deed}
+use Rattle.event_model.specs.Effects.{change_of, effect, on_block, request_of}
 use Rattle.event_model.specs.Lock.{acquire_turn, release_turn}
-use Rattle.event_model.specs.Memory.{SizedCall, Turn, calloc_call, came_to, change_turn, changed_body, finding_of}
-use Rattle.event_model.specs.Memory.{free_turn, free_unless, malloc_call, move_block, request_to_move, new_block}
-use Rattle.event_model.specs.Memory.{new_block_turn, peek_turn, poke_turn, realloc_call, room_for, sized_request}
+use Rattle.event_model.specs.Memory.{SizedCall, Turn, came_to, change_turn, changed_body, finding_of}
+use Rattle.event_model.specs.Memory.{free_turn, free_unless, move_block, request_to_move, new_block}
+use Rattle.event_model.specs.Memory.{new_block_turn, peek_turn, poke_turn, room_for, sized_request}
 use Rattle.event_model.specs.Memory.{stays_in_place, turn_to}
 use Rattle.event_model.specs.Replies.{PlainReply, busy, held as held_reply, not_held, ok, outside, bytes, frames_of}
 use Rattle.event_model.specs.Replies.{is_fault, plain_reply}
 use Rattle.event_model.specs.State.{Held, is_owner}
-use Rattle.event_model.specs.Tracing.{change_of}
-use Rattle.event_model.proofs.CallerLemmas.{sized_asks, sized_is}
 use Rattle.tracing_model.specs.Tracing.{keeps}
 use Rattle.domain_api.specs.Domains.{not_asked}
 use Rattle.domain_api.specs.declared.answers.Asked.{Asked}
@@ -48,7 +47,10 @@ use Rattle.block_store.specs.Store.{FitsCall, IsTurn, block_at, pooled_in, raw_i
 use Rattle.block_store.specs.declared.answer.Answer.{Answer}
 use Rattle.block_store.specs.declared.answer.Call.{Call}
 use Rattle.machine_core.specs.Acts.{Acts, Affects, left_by}
+use Rattle.machine_core.specs.Deeds.{IsCallFor, deed_for}
 use Rattle.machine_core.specs.Held.{Holds, StandsFor}
+use Rattle.trace_table.specs.Ranks.{AreRanks}
+use Rattle.snap_store.specs.Stand.{SnapshotsStand}
 use Rattle.machine_core.specs.Traces.{TracesStand}
 use Rattle.machine_core.specs.declared.held.Held.{Held as Holding}
 use Rattle.machine_core.proofs.FollowLemmas.{kept}
@@ -73,6 +75,9 @@ with_store texts h old new blocks layout stands others holds laid = record {
   files = ap (λ (n : Holding). n.callers.files) others ∙ stands.files;
   frames = stands.frames ∙ ap (λ (n : Holding). map (frames_of texts) n.callers.frames) (sym others);
   traces = subst (λ (n : Holding). TracesStand texts n.callers.table n.tracing h.tracing) (sym others) stands.traces;
+  ranks = subst (λ (n : Holding). IfSome n.ranks (AreRanks texts)) (sym others) stands.ranks;
+  snapshots = subst (λ (n : Holding). SnapshotsStand texts n.callers.table n.snapshots h.snapshots) (sym others)
+      stands.snapshots;
 }
 
 module _ (texts : List Name) (h : Held) (old new : Holding) (name : TextId) (f : Layout → Option Block → Turn) (reply : Reply)
@@ -218,19 +223,12 @@ offset_back (negsuc n) is = to_z-of_z w64 (negsuc n) (record { sfits = omega (ar
 no_request : (l : Layout) → FitsRequest l NoRequest grant.NotAsked ask.NotAsked
 no_request l = record { arena_asked = refl; raw_asked = refl; pools = tt }
 
--- the operation is this call for a block under the name with that number
-abbrev pub IsCallFor : Op → TextId → SizedCall → Type 0
-IsCallFor op name call =
-    (texts : List Name) → (name_of (action_of texts op) ≡ Some (text_at texts name))
-    × (sized_call (action_of texts op) ≡ Some call)
-
 module _ (t : ℕ) (op : Op) (old new : Holding) (reply : Reply) (others : new ≡ record old { store = new.store }) where
   pub sized_affects : (name : TextId) (call : SizedCall) (locked : Bool) (asked : Asked) → IsCallFor op name call
       → locked ≡ is_owner old.owner t
       → name.0 < length old.store.blocks → IsTurn name.0 (sized_by call locked asked) old.store new.store reply
       → FitsCall old.store name.0 call locked asked → Affects t op old new asked reply
   sized_affects name call locked asked is owns lt turn fits = λ texts h table stands.
-      let a = action_of texts op in
       let mine : locked ≡ is_owner h.owner t = owns ∙ ap (λ (o : Option ℕ). is_owner o t) stands.owner in
       let f = sized_by call (is_owner h.owner t) asked in
       let now : IsTurn name.0 f old.store new.store reply =
@@ -239,7 +237,8 @@ module _ (t : ℕ) (op : Op) (old new : Holding) (reply : Reply) (others : new �
       asked.arena asked.raw =
       subst (λ (k : Bool). FitsCall old.store name.0 call k asked) mine fits in
       let there = name_holds texts old.store.blocks h.blocks name stands.blocks lt in
-      let same = sym (sized_is h t a asked.arena asked.raw (text_at texts name) call (is texts).0 (is texts).1) in
+      let same : on_block h (text_at texts name) f ≡ effect h t (deed_for texts op) asked.arena asked.raw =
+      ap (λ (d : Deed). effect h t d asked.arena asked.raw) (sym (is texts)) in
       record {
         held = subst (λ (r : Held × PlainReply). StandsFor texts new (left_by h r)) same
             (turn_left texts h old new name f reply table.distinct stands lt now others
@@ -247,7 +246,7 @@ module _ (t : ℕ) (op : Op) (old new : Holding) (reply : Reply) (others : new �
         answer = turn_answers texts h old new name f reply table.distinct stands lt now others
             ∙ ap (λ (r : Held × PlainReply). r.1) same;
         fits = subst (λ (r : Request). FitsRequest h.layout r asked.arena asked.raw)
-            (sym (sized_asks h t a (text_at texts name) call (is texts).0 (is texts).1))
+            (sym (ap (request_of h t) (is texts)))
             (subst (λ (l : Layout). FitsRequest l
             (sized_request call (is_owner h.owner t) (find h.blocks (text_at texts name))) asked.arena
             asked.raw) stands.layout
@@ -306,10 +305,10 @@ module _ (t : ℕ) (op : Op) (old new : Holding) (reply : Reply) where
   -- an operation on the owner that answers no fault
   lock_acts : (o : Op) (turn : Option ℕ → Option ℕ × PlainReply) → ((owner : Option ℕ) → is_fault (turn owner).1 ≡ false)
       → ((texts : List Name) (h : Held)
-      → effect h t (action_of texts o) grant.NotAsked ask.NotAsked ≡
+      → effect h t (deed_for texts o) grant.NotAsked ask.NotAsked ≡
       (record h { owner = (turn h.owner).0 }, (turn h.owner).1))
-      → ((texts : List Name) (h : Held) → request_of h t (action_of texts o) ≡ NoRequest)
-      → ((texts : List Name) (r : PlainReply) → change_of (action_of texts o) r ≡ keeps)
+      → ((texts : List Name) (h : Held) → request_of h t (deed_for texts o) ≡ NoRequest)
+      → ((texts : List Name) (r : PlainReply) → change_of (deed_for texts o) r ≡ keeps)
       → new ≡ record old { owner = (turn old.owner).0 }
       → ((texts : List Name) → plain_reply texts reply ≡ (turn old.owner).1) → Acts t o old new not_asked reply
   lock_acts o turn sound does none keep is says = kept t o old new not_asked reply keep (λ texts h table stands.
@@ -325,6 +324,9 @@ module _ (t : ℕ) (op : Op) (old new : Holding) (reply : Reply) where
               files = ap (λ (n : Holding). n.callers.files) is ∙ stands.files;
               frames = stands.frames ∙ ap (λ (n : Holding). map (frames_of texts) n.callers.frames) (sym is);
               traces = subst (λ (n : Holding). TracesStand texts n.callers.table n.tracing h.tracing) (sym is) stands.traces;
+              ranks = subst (λ (n : Holding). IfSome n.ranks (AreRanks texts)) (sym is) stands.ranks;
+              snapshots = subst (λ (n : Holding). SnapshotsStand texts n.callers.table n.snapshots h.snapshots) (sym is)
+                  stands.snapshots;
             }));
         answer = says texts ∙ ap (λ (o : Option ℕ). (turn o).1) stands.owner
             ∙ sym (ap (λ (x : Held × PlainReply). x.1) (does texts h));
@@ -403,13 +405,3 @@ sized_does t op old new name call locked (Err e) others is owns lt turn fits = t
 pub call_is : (sized : Letter → SizedCall) (v : Letter) (owns : Bool) (call : Call)
     → call ≡ record { letter = v; locked = owns } → (sized call.letter ≡ sized v) × (call.locked ≡ owns)
 call_is sized v owns call is = (ap (λ (c : Call). sized c.letter) is, ap (λ (c : Call). c.locked) is)
-
-pub is_malloc : (op : Op) (v : Letter) (name : TextId) (n : ℕ) → op ≡ ops.Malloc v name n → IsCallFor op name (malloc_call v n)
-is_malloc op v name n is = subst (λ (o : Op). IsCallFor o name (malloc_call v n)) (sym is) (λ texts. (refl, refl))
-
-pub is_calloc : (op : Op) (v : Letter) (name : TextId) (count n : ℕ) → op ≡ ops.Calloc v name count n
-    → IsCallFor op name (calloc_call v count n)
-is_calloc op v name count n is = subst (λ (o : Op). IsCallFor o name (calloc_call v count n)) (sym is) (λ texts. (refl, refl))
-
-pub is_realloc : (op : Op) (v : Letter) (name : TextId) (n : ℕ) → op ≡ ops.Realloc v name n → IsCallFor op name (realloc_call v n)
-is_realloc op v name n is = subst (λ (o : Op). IsCallFor o name (realloc_call v n)) (sym is) (λ texts. (refl, refl))

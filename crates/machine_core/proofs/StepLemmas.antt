@@ -39,7 +39,10 @@ use Rattle.block_store.specs.Store.{StoreView, empty_store}
 use Rattle.frame_stack.specs.Callers.{CallersView}
 use Rattle.trace_table.specs.Tracing.{IsIdle, TracingView}
 use Rattle.trace_table.specs.declared.key.TraceKey.TheVariants as keys
-use Rattle.machine_core.specs.Acts.{Acts, Asks, Done, IsSound}
+use Rattle.machine_core.specs.Acts.{ActsAmong, Asks, Done, IsSound}
+use Rattle.machine_core.specs.Deeds.{deed_for}
+use Rattle.snap_store.specs.Stand.{SnapshotsStand, SnapshotsView}
+use Rattle.snap_store.proofs.CallerLemmas.{none_stand}
 use Rattle.machine_core.specs.Held.{IsAsItWas, StandsFor}
 use Rattle.machine_core.specs.Progress.{IsProgress}
 use Rattle.machine_core.specs.Ready.{is_ready_now}
@@ -79,6 +82,8 @@ module _ (texts : List Name) (ts : List PlainTrack) (t : ℕ) (s : State) (r : H
     files = stands.files;
     frames = stands.frames;
     traces = stands.traces;
+    ranks = stands.ranks;
+    snapshots = stands.snapshots;
   }
   settled_held false new owner stands owned = record {
     blocks = stands.blocks;
@@ -87,6 +92,8 @@ module _ (texts : List Name) (ts : List PlainTrack) (t : ℕ) (s : State) (r : H
     files = stands.files;
     frames = stands.frames;
     traces = stands.traces;
+    ranks = stands.ranks;
+    snapshots = stands.snapshots;
   }
 
   settled_done : (b : Bool) → cond b done next_done ≡ (settled b).done
@@ -146,12 +153,12 @@ module _ (trace : Trace) (es : List Entry) (old : Holding) (progress : Progress)
 
   -- what the operation did, and the entry that is kept of it
   module _ (e : Entry) (its_track : e.track ≡ t) (new : Holding) (reply : Reply)
-      (acts : Acts t op old new (record { arena = e.arena; raw = e.raw }) reply) where
+      (acts : ActsAmong trace.texts t op old new (record { arena = e.arena; raw = e.raw }) reply) where
     abbrev turn : Held × PlainReply
-    turn = act now.held t (action_of trace.texts op) e.arena e.raw
+    turn = act now.held t (deed_for trace.texts op) e.arena e.raw
 
     abbrev did : Done trace.texts now.held t op (record { arena = e.arena; raw = e.raw }) new reply
-    did = acts trace.texts now.held stands.table stands.held
+    did = acts now.held stands.table stands.held
 
     pub event_is : event (tracks trace) now e ≡ (settle (tracks trace) t now turn, turn.1)
     unfolding event
@@ -237,19 +244,25 @@ no_frames texts (t ∷ ts) = ap (λ (l : List (List PlainFrame)). [] ∷ l) (no_
 abbrev pub opening_callers : Trace → CallersView
 opening_callers trace = record { files = length trace.texts; frames = replicate (length trace.tracks) []; table = [] }
 
+-- a machine's fields while no track owns the lock and the names have no ranks
+abbrev at_first : StoreView → CallersView → TracingView → SnapshotsView → Holding
+at_first s c tracing kept =
+    record { store = s; owner = None; callers = c; tracing = tracing; ranks = None; snapshots = kept }
+
 -- nothing is held, and nothing was done
 pub opening_stands : (trace : Trace) (es : List Entry) (s : StoreView) (c : CallersView) (tracing : TracingView)
-    (progress : Progress) → IsTable trace.texts → IsKnownTrace trace → es ≡ []
+    (kept : SnapshotsView) (progress : Progress) → IsTable trace.texts → IsKnownTrace trace → es ≡ []
     → s ≡ empty_store (length trace.texts) → c ≡ opening_callers trace → IsIdle tracing
     → progress.done.items ≡ replicate {A = ℕ} (length trace.tracks) 0 → IsProgress trace progress
-    → Stands trace es (record { store = s; owner = None; callers = c; tracing = tracing }) progress false
-opening_stands trace es s c tracing progress table known empty opened called idle zeros is =
-    subst (λ (x : List Entry). Stands trace x (record { store = s; owner = None; callers = c; tracing = tracing })
+    → kept ≡ []
+    → Stands trace es (at_first s c tracing kept) progress false
+opening_stands trace es s c tracing kept progress table known empty opened called idle zeros is none =
+    subst (λ (x : List Entry). Stands trace x (at_first s c tracing kept)
     progress false) (sym empty)
-    (subst (λ (v : StoreView). Stands trace [] (record { store = v; owner = None; callers = c; tracing = tracing })
+    (subst (λ (v : StoreView). Stands trace [] (at_first v c tracing kept)
     progress false) (sym opened)
     (subst (λ (v : CallersView). Stands trace []
-    (record { store = empty_store (length trace.texts); owner = None; callers = v; tracing = tracing }) progress
+    (at_first (empty_store (length trace.texts)) v tracing kept) progress
     false) (sym called) (record {
       legal = tt;
       table = table;
@@ -267,6 +280,8 @@ opening_stands trace es s c tracing progress table known empty opened called idl
         files = refl;
         frames = no_frames trace.texts trace.tracks;
         traces = idle_stand trace.texts [] [] tracing idle;
+        ranks = tt;
+        snapshots = subst (λ (v : SnapshotsView). SnapshotsStand trace.texts [] v []) (sym none) (none_stand trace.texts []);
       };
       stacks = length-replicate {A = List Frame} (length trace.tracks) [];
       done_is = zeros ∙ zeros_are trace.texts trace.tracks;
@@ -277,10 +292,14 @@ opening_stands trace es s c tracing progress table known empty opened called idl
 
 -- what an operation needs of what is held
 pub sound_is : (trace : Trace) (es : List Entry) (now : Holding) (progress : Progress) (faulted : Bool)
-    → Stands trace es now progress faulted → IsSound now
+    → Stands trace es now progress faulted → IsSound trace.texts now
 sound_is trace es now progress faulted stands = record {
+  blocks = stands.held.blocks.size;
   files = stands.held.files ∙ sym stands.held.blocks.size;
   numbered = λ name lt. (stands.held.traces.each (keys.Block name) (omega (arith, lt, stands.held.blocks.size))).numbered;
+  known = stands.held.traces.known;
+  stored = stands.held.snapshots.stored;
+  ranks = stands.held.ranks;
 }
 
 -- memory ran out, and all is as it was
@@ -313,6 +332,32 @@ pub ready_is : (trace : Trace) (es : List Entry) (now : Holding) (progress : Pro
     → is_ready_now trace now.owner progress.done.items t ≡ is_ready (tracks trace) (last_state (tracks trace) es) t
 ready_is trace es old progress faulted stands t =
     λ i. may_do (stands.held.owner i) t (action_after (tracks trace) t (slice_index (stands.done_is i) t))
+
+-- a track whose next operation is none is not ready
+pub not_ready : (trace : Trace) (es : List Entry) (now : Holding) (progress : Progress) (faulted : Bool) (t at : ℕ)
+    → Stands trace es now progress faulted → at ≡ get_or progress.done.items t at → op_at trace.tracks t at ≡ None
+    → is_ready (tracks trace) (last_state (tracks trace) es) t ≡ false
+not_ready trace es now progress faulted t at stands here none = by (slice_get trace.tracks t) refl
+  where
+    s : State
+    s = last_state (tracks trace) es
+
+    none_at_all : (d : ℕ) → op_at trace.tracks t d ≡ None → may_do s.held.owner t (action_after (tracks trace) t d) ≡ false
+    none_at_all d is = ap (may_do s.held.owner t)
+        (action_is trace.texts trace.tracks t d ∙ ap (option_map (action_of trace.texts)) is)
+
+    by : (o : Option Track) → slice_get trace.tracks t ≡ o → is_ready (tracks trace) s t ≡ false
+    by None is =
+        none_at_all (slice_index s.done t)
+        (ap (option_and_then (λ (track : Track). slice_get track.ops (slice_index s.done t))) is)
+    by (Some track) is =
+        let lt : t < length progress.done.items =
+        omega (arith, slice_get_within trace.tracks t track is, stands.progress_is.tracks) in
+        let e : Some (get_or progress.done.items t at) ≡ Some (get_or progress.done.items t 0) =
+        sym (slice_get-get_or progress.done.items t at lt) ∙ slice_get-get_or progress.done.items t 0 lt in
+        let same : get_or progress.done.items t at ≡ get_or progress.done.items t 0 = cc in
+        let index : at ≡ slice_index s.done t = here ∙ same ∙ ap (λ (d : List ℕ). slice_index d t) stands.done_is in
+        ap (λ (d : ℕ). may_do s.held.owner t (action_after (tracks trace) t d)) (sym index) ∙ none_at_all at none
 
 pub some_weaker : {A : Type 0} (o : Option A) (P Q : A → Type 0) → ((a : A) → P a → Q a) → IfSome o P → IfSome o Q
 some_weaker None P Q f h = tt

@@ -1,7 +1,7 @@
 -- What is traced by number and by name, and what each change leaves of it.
 use Rattle.std.proofs.Common.{◌≡◌, ◌≢◌, ℕ, ◌+◌, ◌<◌, max, Bool, true, false, List, [], length, get_or}
 use Rattle.std.proofs.Common.{slice_get, Option, Some, None, refl, sym, ap, subst, ◌∙◌, arith, true≢false}
-use Rattle.std.specs.Prelude.{IfSome, IfNone, unwrap_or}
+use Rattle.std.specs.Prelude.{IfSome, IfNone, is_some, unwrap_or}
 use Rattle.std.specs.Option.{option_map}
 use Rattle.std.proofs.lemmas.Option.{slice_get_within, slice_get-get_or}
 use Rattle.mem_base.specs.Name.{Name}
@@ -9,11 +9,11 @@ use Rattle.mem_base.specs.Texts.{IsDistinct}
 use Rattle.mem_base.specs.declared.reply.Frame.{Frame}
 use Rattle.mem_base.specs.declared.texts.TextId.{TextId}
 use Rattle.frame_model.specs.Frames.{PlainFrame}
-use Rattle.tracing_model.specs.Traces.{Key, TraceOf, AreDistinct, size_in}
+use Rattle.tracing_model.specs.Traces.{Key, TraceOf, AreDistinct, same_key as same_named, size_in}
 use Rattle.tracing_model.specs.Tracing.{Tracing, gets, forgets, starts, stops, clears, resets, keeps, after, peak}
 use Rattle.tracing_model.specs.Tracing.{trace_of as trace_now, traced_now}
 use Rattle.tracing_model.proofs.CallerLemmas.{fewer_bytes, fewer_distinct, gone_at, gone_other, got_at, got_other}
-use Rattle.tracing_model.proofs.CallerLemmas.{more_bytes, peak_rises, with_distinct}
+use Rattle.tracing_model.proofs.CallerLemmas.{key_is, more_bytes, peak_rises, same_keys, with_distinct}
 use Rattle.trace_model.specs.Plain.{text_at}
 use Rattle.event_model.specs.Replies.{frames_of}
 use Rattle.event_model.specs.Tracing.{trace_in, unknown_frame}
@@ -85,6 +85,8 @@ traces_stay texts old new before later t keep same stands = record {
         numbered = subst (IsNumbered new) (sym (same.each key))
             (numbered_stays old new keep (stored_at before.traces key) one.numbered);
       };
+  known = λ key some. stands.known key (ap (λ (o : Option Stored). is_some o) (sym (same.each key)) ∙ some);
+  named = stands.named;
   bytes = same.bytes ∙ stands.bytes;
   most = same.peak ∙ stands.most;
   below = stands.below;
@@ -123,6 +125,25 @@ module _ (texts : List Name) (table : List (List Frame)) (old new : TracingView)
             numbered = subst (IsNumbered table) (sym same) one.numbered;
           }
 
+  known_then : (k : TraceKey) → is_some (stored_at new.traces k) ≡ true → IsKnownKey (length texts) k
+  known_then k some = by (same_key key k) refl
+    where
+      by : (b : Bool) → same_key key k ≡ b → IsKnownKey (length texts) k
+      by true same = subst (IsKnownKey (length texts)) ((keys_tell key k).0 same) known
+      by false away = stands.known k (ap (λ (o : Option Stored). is_some o) (sym (change.changes.others k away)) ∙ some)
+
+  named_then : (k : Key) (one : TraceOf) → trace_in later k ≡ Some one
+      → (its : TraceKey) × IsKnownKey (length texts) its × (key_of texts its ≡ k)
+  named_then k one is = by (same_named (key_of texts key) k) refl
+    where
+      by : (b : Bool) → same_named (key_of texts key) k ≡ b
+          → (its : TraceKey) × IsKnownKey (length texts) its × (key_of texts its ≡ k)
+      by true same = (key, known, same_keys (key_of texts key) k same)
+      by false away = stands.named k one (sym (others k other) ∙ is)
+        where
+          other : k ≢ key_of texts key
+          other e = true≢false (sym (key_is k) ∙ ap (λ (j : Key). same_named j k) e ∙ away)
+
   changed : option_map (λ (x : Tracing). x.limit) later ≡ option_map (λ (x : Tracing). x.limit) t
       → traced_now later + size_in (trace_in t (key_of texts key)) ≡ traced_now t + size_in (trace_in later (key_of texts key))
       → peak later ≡ max (peak t) (traced_now later) → IfSome later (λ (x : Tracing). AreDistinct x.traces)
@@ -135,6 +156,8 @@ module _ (texts : List Name) (table : List (List Frame)) (old new : TracingView)
       record {
         limit = change.limit ∙ stands.limit ∙ sym limit;
         each = each_then;
+        known = known_then;
+        named = named_then;
         bytes = bytes;
         most = omega (arith, change.peak, stands.most, bytes, most);
         below = omega (arith, most);
@@ -206,6 +229,8 @@ module _ (texts : List Name) (table : List (List Frame)) (frames : List PlainFra
       record {
         limit = stands.limit;
         each = λ key known. let one = stands.each key known in record { named = one.named; numbered = one.numbered };
+        known = stands.known;
+        named = λ k one is. stands.named k one is;
         bytes = stands.bytes;
         most = omega (arith, stands.most, stands.below, most);
         below = omega (arith, most);
@@ -230,6 +255,9 @@ module _ (texts : List Name) (table : List (List Frame)) (frames : List PlainFra
   none_stand now t limit empty nothing none sum most distinct = record {
     limit = limit;
     each = λ key known. none_each now.traces t empty none key;
+    known = λ key some. absurd
+        (true≢false (sym some ∙ ap (λ (l : Traces). is_some (stored_at l key)) empty));
+    named = λ k one is. let some : None ≡ Some one = sym (none k) ∙ is in absurd cc;
     bytes = ap traced_bytes empty ∙ sym sum;
     most = nothing ∙ sym most;
     below = omega (arith, sum);
@@ -275,6 +303,8 @@ module _ (texts : List Name) (table : List (List Frame)) (frames : List PlainFra
       subst (λ (v : TracingView). TracesStand texts table v None) (sym reset) (record {
         limit = stands.limit;
         each = stands.each;
+        known = stands.known;
+        named = stands.named;
         bytes = stands.bytes;
         most = stands.bytes;
         below = stands.below;
@@ -284,6 +314,8 @@ module _ (texts : List Name) (table : List (List Frame)) (frames : List PlainFra
       subst (λ (v : TracingView). TracesStand texts table v (after unknown_frame frames resets (Some x))) (sym reset) (record {
         limit = stands.limit;
         each = λ key known. let one = stands.each key known in record { named = one.named; numbered = one.numbered };
+        known = stands.known;
+        named = λ k one is. stands.named k one is;
         bytes = stands.bytes;
         most = omega (arith, stands.bytes);
         below = omega arith;

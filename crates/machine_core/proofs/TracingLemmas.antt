@@ -20,20 +20,23 @@ use Rattle.layout_model.specs.Layout.{Layout}
 use Rattle.frame_model.specs.Frames.{PlainFrame, frames_below, frames_on, frames_with}
 use Rattle.tracing_model.specs.Traces.{TraceOf, of_block, of_mark}
 use Rattle.tracing_model.specs.Tracing.{Tracing, keeps, peak, traced_now}
-use Rattle.trace_model.specs.Plain.{action_of, text_at}
-use Rattle.event_model.specs.Effects.{effect, on_frames, request_of}
+use Rattle.mem_base.specs.Texts.{text_at}
+use Rattle.event_model.specs.Effects.{change_of, effect, on_frames, request_of, tracing_after}
 use Rattle.event_model.specs.Frames.{frames_at, with_call, with_line}
 use Rattle.event_model.specs.Replies.{PlainReply, not_tracing, ok, traced, frames_of, is_fault, plain_reply}
 use Rattle.event_model.specs.State.{Held}
-use Rattle.event_model.specs.Tracing.{change_of, mark_answer, origin_answer, trace_answer, trace_in, tracing_after}
+use Rattle.event_model.specs.Tracing.{mark_answer, origin_answer, trace_answer, trace_in}
 use Rattle.domain_api.specs.Domains.{not_asked}
 use Rattle.frame_stack.specs.Callers.{frames_of as stack_of, with_frames}
 use Rattle.frame_stack.specs.Tracebacks.{at_line}
+use Rattle.trace_table.specs.Ranks.{AreRanks}
 use Rattle.trace_table.specs.Traces.{trace_at, traced_bytes}
 use Rattle.trace_table.specs.Tracing.{ChangesOne, IsIdle}
 use Rattle.trace_table.specs.declared.key.TraceKey.TheVariants as keys
+use Rattle.snap_store.specs.Stand.{SnapshotsStand}
 use Rattle.trace_table.specs.declared.key.TraceOf.{TraceOf as Stored}
 use Rattle.machine_core.specs.Acts.{Acts, HasEffect, left_by}
+use Rattle.machine_core.specs.Deeds.{deed_for}
 use Rattle.machine_core.specs.Held.{Holds, IsAsItWas, StandsFor}
 use Rattle.machine_core.specs.Prepared.{IsTraceBy}
 use Rattle.machine_core.specs.Traces.{TracesStand, trace_of}
@@ -44,7 +47,7 @@ use Rattle.machine_core.proofs.TraceLemmas.{clears_stand, forgets_stand, gets_st
 use Rattle.machine_core.proofs.TraceLemmas.{resets_stand, starts_stand, stops_stand}
 
 -- no source is asked
-nothing_asked : (l : Layout) → FitsRequest l NoRequest grant.NotAsked ask.NotAsked
+pub nothing_asked : (l : Layout) → FitsRequest l NoRequest grant.NotAsked ask.NotAsked
 nothing_asked l = record { arena_asked = refl; raw_asked = refl; pools = tt }
 
 -- ---- calls, lines and returns
@@ -52,9 +55,9 @@ nothing_asked l = record { arena_asked = refl; raw_asked = refl; pools = tt }
 module _ (t : ℕ) (op : Op) (old new : Holding) where
   -- the frames of the track change, by number and by name
   frames_act : (o : Op) (f : List Frame → List Frame) (g : List Name → List PlainFrame → List PlainFrame)
-      → ((texts : List Name) (h : Held) → effect h t (action_of texts o) grant.NotAsked ask.NotAsked ≡ on_frames h t (g texts))
-      → ((texts : List Name) (h : Held) → request_of h t (action_of texts o) ≡ NoRequest)
-      → ((texts : List Name) (r : PlainReply) → change_of (action_of texts o) r ≡ keeps)
+      → ((texts : List Name) (h : Held) → effect h t (deed_for texts o) grant.NotAsked ask.NotAsked ≡ on_frames h t (g texts))
+      → ((texts : List Name) (h : Held) → request_of h t (deed_for texts o) ≡ NoRequest)
+      → ((texts : List Name) (r : PlainReply) → change_of (deed_for texts o) r ≡ keeps)
       → ((texts : List Name) (fs : List Frame) → frames_of texts (f fs) ≡ g texts (frames_of texts fs))
       → new ≡ record old { callers = with_frames old.callers t (f (stack_of old.callers t)) }
       → Acts t o old new not_asked replies.Ok
@@ -67,6 +70,9 @@ module _ (t : ℕ) (op : Op) (old new : Holding) where
       frames = stacks_change texts old.callers h.frames t f (g texts) stands.frames (named texts)
           ∙ ap (λ (n : Holding). map (frames_of texts) n.callers.frames) (sym is);
       traces = subst (λ (n : Holding). TracesStand texts n.callers.table n.tracing h.tracing) (sym is) stands.traces;
+      ranks = subst (λ (n : Holding). IfSome n.ranks (AreRanks texts)) (sym is) stands.ranks;
+      snapshots = subst (λ (n : Holding). SnapshotsStand texts n.callers.table n.snapshots h.snapshots) (sym is)
+          stands.snapshots;
     });
     answer = sym (ap (λ (x : Held × PlainReply). x.1) (does texts h));
     fits = subst (λ (q : _). FitsRequest h.layout q grant.NotAsked ask.NotAsked) (sym (none texts h)) (nothing_asked h.layout);
@@ -110,12 +116,12 @@ module _ (t : ℕ) (op : Op) (old mid new : Holding) (reply : Reply) (same : IsA
   stays h false = refl
 
   traces_act : (o : Op) → ((texts : List Name) → is_fault (plain_reply texts reply) ≡ false)
-      → ((texts : List Name) (h : Held) → request_of h t (action_of texts o) ≡ NoRequest)
+      → ((texts : List Name) (h : Held) → request_of h t (deed_for texts o) ≡ NoRequest)
       → ((texts : List Name) (h : Held) → StandsFor texts mid h
-      → effect h t (action_of texts o) grant.NotAsked ask.NotAsked ≡ (h, plain_reply texts reply))
+      → effect h t (deed_for texts o) grant.NotAsked ask.NotAsked ≡ (h, plain_reply texts reply))
       → ((texts : List Name) (g : Held) → IsTable texts → StandsFor texts mid g
       → TracesStand texts mid.callers.table new.tracing
-      (tracing_after (frames_at g.frames t) (action_of texts o) (plain_reply texts reply) g.tracing))
+      (tracing_after (frames_at g.frames t) (deed_for texts o) (plain_reply texts reply) g.tracing))
       → Acts t o old new not_asked reply
   traces_act o sound none does then_traced = λ texts h names stands.
       let before = as_it_was_stands texts old mid h same stands in
@@ -130,18 +136,18 @@ module _ (t : ℕ) (op : Op) (old mid new : Holding) (reply : Reply) (same : IsA
       follows texts h t o not_asked mid new reply e others
       (λ fell. absurd (true≢false (sym fell ∙ ap (λ (x : Held × PlainReply). is_fault x.1) is ∙ sound texts)))
       (λ g there. subst (λ (r : PlainReply). TracesStand texts mid.callers.table new.tracing
-      (tracing_after (frames_at g.frames t) (action_of texts o) r g.tracing))
+      (tracing_after (frames_at g.frames t) (deed_for texts o) r g.tracing))
       (sym (ap (λ (x : Held × PlainReply). x.1) is))
       (then_traced texts g names there))
 
 -- tracing starts and stops, the traces are cleared and the peak is reset
 module _ (t : ℕ) (op : Op) (old new : Holding) (others : new ≡ record old { tracing = new.tracing }) where
-  changes : (o : Op) → op ≡ o → ((texts : List Name) (h : Held) → request_of h t (action_of texts o) ≡ NoRequest)
+  changes : (o : Op) → op ≡ o → ((texts : List Name) (h : Held) → request_of h t (deed_for texts o) ≡ NoRequest)
       → ((texts : List Name) (h : Held) → StandsFor texts old h
-      → effect h t (action_of texts o) grant.NotAsked ask.NotAsked ≡ (h, ok))
+      → effect h t (deed_for texts o) grant.NotAsked ask.NotAsked ≡ (h, ok))
       → ((texts : List Name) (g : Held) → IsTable texts → StandsFor texts old g
       → TracesStand texts old.callers.table new.tracing
-      (tracing_after (frames_at g.frames t) (action_of texts o) ok g.tracing))
+      (tracing_after (frames_at g.frames t) (deed_for texts o) ok g.tracing))
       → Acts t op old new not_asked replies.Ok
   changes o is none does then_traced =
       subst (λ (p : Op). Acts t p old new not_asked replies.Ok) (sym is)

@@ -1,12 +1,11 @@
 -- What an operation does to what is held, and asks of the sources.
-use Rattle.std.specs.Prelude.{◌≡◌, ℕ, ◌+◌, ◌<◌, Bool, true, false, if◌then◌else◌, List, length, Some}
+use Rattle.std.specs.Prelude.{◌≡◌, ℕ, ◌+◌, ◌<◌, true, if◌then◌else◌, List, length, Some, is_some, IfSome}
 use Rattle.mem_base.specs.Name.{Name}
 use Rattle.mem_base.specs.Plan.{plan_with}
 use Rattle.mem_base.specs.Texts.{IsTable}
 use Rattle.mem_base.specs.declared.reply.Reply.{Reply}
 use Rattle.mem_base.specs.declared.texts.TextId.{TextId}
 use Rattle.mem_base.specs.declared.trace.Op.{Op}
-use Rattle.mem_base.specs.declared.trace.Op.TheVariants as ops
 use Rattle.mem_base.specs.declared.trace.Side.{Side}
 use Rattle.mem_base.specs.declared.trace.Side.TheVariants as sides
 use Rattle.trace_model.specs.Plain.{action_of}
@@ -21,42 +20,16 @@ use Rattle.request_model.specs.Counts.{arena_asks, arena_refusals, raw_asks, raw
 use Rattle.sources.specs.Source.{ArenaShape, SourceView}
 use Rattle.domain_api.specs.declared.answers.Asked.{Asked}
 use Rattle.trace_table.specs.Traces.{trace_at}
+use Rattle.trace_table.specs.Plain.{IsKnownKey}
+use Rattle.trace_table.specs.Ranks.{AreRanks}
+use Rattle.trace_table.specs.declared.key.TraceKey.{TraceKey}
 use Rattle.trace_table.specs.declared.key.TraceKey.TheVariants as keys
+use Rattle.snap_store.specs.Stand.{AreStored}
 pub use Rattle.block_store.specs.Sources.{Fails, FailsUnrefused}
+use Rattle.machine_core.specs.Deeds.{deed_for}
 use Rattle.machine_core.specs.Held.{StandsFor}
 use Rattle.machine_core.specs.Traces.{IsNumbered}
 use Rattle.machine_core.specs.declared.held.Held.{Held as Holding}
-
--- ---- which operations ask a source
-
--- the operation asks no source and tells it nothing
-abbrev pub is_quiet : Op → Bool
-is_quiet ops.Acquire = true
-is_quiet ops.Release = true
-is_quiet (ops.Malloc letter name size) = false
-is_quiet (ops.Calloc letter name count size) = false
-is_quiet (ops.Realloc letter name size) = false
-is_quiet (ops.Free letter name) = false
-is_quiet (ops.Poke name offset bytes) = true
-is_quiet (ops.Peek name offset count) = true
-is_quiet (ops.Enter file line) = true
-is_quiet (ops.Line line) = true
-is_quiet ops.Leave = true
-is_quiet (ops.Start limit) = true
-is_quiet ops.Stop = true
-is_quiet ops.Clear = true
-is_quiet ops.ResetPeak = true
-is_quiet ops.Traced = true
-is_quiet (ops.Mark domain number size) = true
-is_quiet (ops.Unmark domain number) = true
-is_quiet (ops.Origin name) = true
-is_quiet (ops.Snapshot name) = true
-is_quiet (ops.Keep new old rules) = true
-is_quiet (ops.Stats name key cumulative lines) = true
-is_quiet (ops.Compare new old key cumulative lines) = true
-is_quiet (ops.Dump name) = true
-is_quiet ops.Heap = true
-is_quiet (ops.Refuse side number) = false
 
 -- ---- what is held
 
@@ -70,35 +43,45 @@ pub record CameTo (texts : List Name) (h : Held) (t : ℕ) (op : Op) (asked : As
     (new : Holding) (reply : Reply) : Type 0 where
   pub held : StandsFor texts new (left_by h r)
   pub answer : plain_reply texts reply ≡ r.1
-  pub fits : FitsRequest h.layout (request_of h t (action_of texts op)) asked.arena asked.raw
+  pub fits : FitsRequest h.layout (request_of h t (deed_for texts op)) asked.arena asked.raw
 
 -- the operation was done, as the definitions say
 abbrev pub Done : List Name → Held → ℕ → Op → Asked → Holding → Reply → Type 0
 Done texts h t op asked =
-    CameTo texts h t op asked (act h t (action_of texts op) asked.arena asked.raw)
+    CameTo texts h t op asked (act h t (deed_for texts op) asked.arena asked.raw)
 
 -- it was done but for what is traced
 abbrev pub HasEffect : List Name → Held → ℕ → Op → Asked → Holding → Reply → Type 0
 HasEffect texts h t op asked =
-    CameTo texts h t op asked (effect h t (action_of texts op) asked.arena asked.raw)
+    CameTo texts h t op asked (effect h t (deed_for texts op) asked.arena asked.raw)
 
--- whatever is held by name, the operation of track t was done to it, with these answers of the sources
+-- whatever is held by name, the operation of track t was done to it, with these answers of the sources: where
+-- the texts are these, and whatever they are
+abbrev pub ActsAmong : List Name → ℕ → Op → Holding → Holding → Asked → Reply → Type 0
+ActsAmong texts t op old new asked reply =
+    (h : Held) → IsTable texts → StandsFor texts old h → Done texts h t op asked new reply
+
 abbrev pub Acts : ℕ → Op → Holding → Holding → Asked → Reply → Type 0
-Acts t op old new asked reply =
-    (texts : List Name) (h : Held)
-    → IsTable texts → StandsFor texts old h → Done texts h t op asked new reply
+Acts t op old new asked reply = (texts : List Name) → ActsAmong texts t op old new asked reply
 
--- whatever is held by name, the operation of track t was done to it, but for what is traced
+-- the same, but for what is traced
+abbrev pub AffectsAmong : List Name → ℕ → Op → Holding → Holding → Asked → Reply → Type 0
+AffectsAmong texts t op old new asked reply =
+    (h : Held) → IsTable texts → StandsFor texts old h → HasEffect texts h t op asked new reply
+
 abbrev pub Affects : ℕ → Op → Holding → Holding → Asked → Reply → Type 0
-Affects t op old new asked reply =
-    (texts : List Name) (h : Held)
-    → IsTable texts → StandsFor texts old h → HasEffect texts h t op asked new reply
+Affects t op old new asked reply = (texts : List Name) → AffectsAmong texts t op old new asked reply
 
--- the files of frames are the numbers of names, and the tracebacks of blocks' traces have numbers
-pub record IsSound (now : Holding) : Type 0 where
+-- there is a block or none for each text, the files of frames are of them, the tracebacks of all traces, of which
+-- each has a key that is known, and of the rows of snapshots have numbers, and the ranks are those of the texts
+pub record IsSound (texts : List Name) (now : Holding) : Type 0 where
+  pub blocks : length now.store.blocks ≡ length texts
   pub files : now.callers.files ≡ length now.store.blocks
   pub numbered : (name : TextId) → name.0 < length now.store.blocks
       → IsNumbered now.callers.table (trace_at now.tracing.traces (keys.Block name))
+  pub known : (key : TraceKey) → is_some (trace_at now.tracing.traces key) ≡ true → IsKnownKey (length texts) key
+  pub stored : AreStored now.callers.table now.snapshots
+  pub ranks : IfSome now.ranks (AreRanks texts)
 
 -- ---- the sources
 

@@ -1,9 +1,11 @@
+pub mod Deeds
 pub mod Acts
 pub mod Held
 pub mod Picks
 pub mod Prepared
 pub mod Progress
 pub mod Ready
+pub mod Snapshots
 pub mod Spots
 pub mod Stands
 pub mod Traces

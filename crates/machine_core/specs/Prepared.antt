@@ -7,15 +7,16 @@ use Rattle.mem_base.specs.declared.trace.Op.{Op}
 use Rattle.frame_model.specs.Frames.{recent, total}
 use Rattle.tracing_model.specs.Traces.{of_block}
 use Rattle.tracing_model.specs.Tracing.{Change, gets, forgets, starts, stops, clears, resets, keeps}
-use Rattle.trace_model.specs.Plain.{action_of, text_at}
+use Rattle.mem_base.specs.Texts.{text_at}
 use Rattle.request_model.specs.Decision.{max_size}
 use Rattle.event_model.specs.Replies.{is_ok, ok, plain_reply}
-use Rattle.event_model.specs.Tracing.{change_of}
+use Rattle.event_model.specs.Effects.{change_of}
 use Rattle.frame_stack.specs.Callers.{frames_of}
 use Rattle.frame_stack.specs.Tracebacks.{unknown_frame}
 use Rattle.trace_table.specs.Tracing.{TracingView, ChangesOne}
 use Rattle.trace_table.specs.declared.key.TraceKey.TheVariants as keys
 use Rattle.trace_table.specs.declared.key.TraceOf.{TraceOf as Stored}
+use Rattle.machine_core.specs.Deeds.{deed_for}
 use Rattle.machine_core.specs.declared.held.Held.{Held as Holding}
 use Rattle.machine_core.specs.declared.traces.Prepared.{Prepared}
 use Rattle.machine_core.specs.declared.traces.Prepared.TheVariants as prepared
@@ -53,7 +54,7 @@ IsPreparedFor texts now t prepared.Nothing change = ComesToNothing now.tracing.l
 
 -- this is prepared for an operation of track t
 abbrev pub IsPrepared : ℕ → Op → Holding → Prepared → Type 0
-IsPrepared t op now p = (texts : List Name) → IsPreparedFor texts now t p (change_of (action_of texts op) ok)
+IsPrepared t op now p = (texts : List Name) → IsPreparedFor texts now t p (change_of (deed_for texts op) ok)
 
 -- there is memory for the trace that is to come
 abbrev pub HasRoom : TracingView → Prepared → Type 0

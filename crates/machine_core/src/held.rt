@@ -24,23 +24,29 @@ ghost use Rattle.event_model.specs.State.{is_owner};
 ghost use Rattle.domain_api.specs.Domains.{not_asked};
 ghost use Rattle.block_store.specs.Sources.{AreHeld, CanAsk, Fails, FailsUnrefused, IsPassedOn};
 ghost use Rattle.block_store.specs.Store.{HoldsTheSame};
-ghost use Rattle.machine_core.specs.Acts.{is_quiet, told_where, Acts, Affects, AsksArenas, AsksRaws, IsSound};
+ghost use Rattle.machine_core.specs.Acts.{told_where, ActsAmong, Affects, AsksArenas, AsksRaws, IsSound};
+ghost use Rattle.machine_core.specs.Deeds.{is_quiet};
 ghost use Rattle.machine_core.specs.Held.{IsAsItWas};
 
 use block_store::{Answer, Call, Store};
 use frame_stack::Callers;
-use mem_base::{Letter, Op, Reply, Side, TrackId};
+use mem_base::{Letter, Op, Reply, Side, Texts, TrackId};
+use snap_stats::Grouping;
+use snap_store::Snapshots;
 use sources::{ArenaSource, RawSource};
 use std::alloc::{AllocError, Global};
-use trace_table::Tracing;
+use trace_table::{Ranks, Tracing};
 
 /// What operations work on: the blocks, the track that owns the interpreter lock, the frames of the tracks
-/// with their tracebacks, and the traces. It must be spent by the store's `end`.
+/// with their tracebacks, the traces, where each name stands in the order of names once that is known, and the
+/// snapshots. It must be spent by the store's `end`.
 pub(crate) struct Held {
     pub(crate) store: Store,
     pub(crate) owner: Option<TrackId>,
     pub(crate) callers: Callers,
     pub(crate) tracing: Tracing,
+    pub(crate) ranks: Option<Ranks>,
+    pub(crate) snapshots: Snapshots,
 }
 
 // Asks a source to refuse its k-th request from now. The error is want of memory.
@@ -100,13 +106,19 @@ impl Held {
     }
 
     // Does an operation that asks no source, and leaves all others to `asking`.
-    fn quiet(&mut self, alloc: Global, t: TrackId, op: &Op) -> Result<Option<Reply>, AllocError>
+    fn quiet(
+        &mut self,
+        alloc: Global,
+        t: TrackId,
+        op: &Op,
+        texts: &Texts,
+    ) -> Result<Option<Reply>, AllocError>
         requires known { IsKnownAmong (length self.old.store.blocks) op.now }
         requires track { t < length self.old.callers.frames }
-        requires sound { IsSound self.old }
+        requires sound { IsSound texts.now self.old }
         ensures done { IfOk result (λ r. is_some r ≡ is_quiet op.now) }
         ensures acts { IfOk result (λ r.
-            IfSome r (λ reply. Acts t op.now self.old self.new not_asked reply)) }
+            IfSome r (λ reply. ActsAmong texts.now t op.now self.old self.new not_asked reply)) }
         ensures known { IfOk result (λ r. IfSome r (IsKnownReply (length self.old.store.blocks))) }
         ensures same { HoldsTheSame self.old.store self.new.store }
         ensures stacks { length self.new.callers.frames ≡ length self.old.callers.frames }
@@ -165,6 +177,22 @@ impl Held {
                 let reply = self.origin(alloc, *name)?;
                 Ok(Some(reply))
             }
+            Op::Snapshot(name) => {
+                let reply = self.snapshot(alloc, *name, texts)?;
+                Ok(Some(reply))
+            }
+            Op::Keep(new, old, rules) => {
+                let reply = self.keep(alloc, *new, *old, rules.as_slice(), texts)?;
+                Ok(Some(reply))
+            }
+            Op::Stats(name, key, cumulative, most) => {
+                let by = Grouping {
+                    key: *key,
+                    cumulative: *cumulative,
+                };
+                let reply = self.stats(alloc, *name, by, *most, texts)?;
+                Ok(Some(reply))
+            }
             Op::Heap => {
                 let view = self.store.view()?;
                 Ok(Some(Reply::Heap(view)))
@@ -174,11 +202,7 @@ impl Held {
             | Op::Realloc(_, _, _)
             | Op::Free(_, _)
             | Op::Refuse(_, _) => Ok(None),
-            Op::Snapshot(_)
-            | Op::Keep(_, _, _)
-            | Op::Stats(_, _, _, _)
-            | Op::Compare(_, _, _, _, _)
-            | Op::Dump(_) => unreachable!(),
+            Op::Compare(_, _, _, _, _) | Op::Dump(_) => unreachable!(),
         }
     }
 
@@ -265,15 +289,17 @@ impl Held {
         alloc: Global,
         t: TrackId,
         op: &Op,
+        texts: &Texts,
         arenas: &mut A,
         raws: &mut R,
     ) -> Result<Answer, AllocError>
         requires known { IsKnownAmong (length self.old.store.blocks) op.now }
         requires track { t < length self.old.callers.frames }
-        requires sound { IsSound self.old }
+        requires sound { IsSound texts.now self.old }
         requires ask { CanAsk self.old.store (A.seen arenas.old) (R.seen raws.old) }
         requires held { AreHeld self.old.store (A.seen arenas.old) (R.seen raws.old) }
-        ensures acts { IfOk result (λ a. Acts t op.now self.old self.new a.asked a.reply) }
+        ensures acts { IfOk result (λ a.
+            ActsAmong texts.now t op.now self.old self.new a.asked a.reply) }
         ensures known { IfOk result (λ a. IsKnownReply (length self.old.store.blocks) a.reply) }
         ensures asks_arena { IfOk result (λ a.
             AsksArenas op.now a.asked self.old self.new (A.seen arenas.old) (A.seen arenas.new)) }
@@ -289,7 +315,7 @@ impl Held {
         ensures passed { OnErr result
             (IsPassedOn (A.seen arenas.old) (A.seen arenas.new) (R.seen raws.old) (R.seen raws.new)) }
     {
-        match self.quiet(alloc, t, op)? {
+        match self.quiet(alloc, t, op, texts)? {
             Some(reply) => Ok(Answer::unasked(reply)),
             None => {
                 let prepared = self.prepare(t, op)?;

@@ -9,6 +9,7 @@
 //!              owner of the lock                             owner of the lock
 //!              frames of each track                          callers: frames, and numbers of tracebacks
 //!              traces, and their sums                        tracing: traces by number, their sum, its peak
+//!              snapshots by name                             snapshots by number, and the ranks of names
 //!     done     operations done by track  <------    progress done, and the tracks with operations left
 //!     faulted  whether a fault has come  <------    faulted
 //!     history  the events so far         <------    history
@@ -21,7 +22,7 @@
 //! is asked. So an event that finds no memory leaves the machine as it was; at most a list of frames has
 //! got a number, or the map of traces has got larger, and nothing that a machine says depends on either.
 //! An operation is done in `Held`: `quiet` has those that ask no source, `asking` all others, and what is
-//! traced after an operation of `asking` stands in `traces`.
+//! traced after an operation of `asking` stands in `traces`; what is kept of traces stands in `snapshots`.
 #![tactic(auto)]
 
 mod held;
@@ -29,6 +30,7 @@ mod machine;
 mod picks;
 mod progress;
 mod schedule;
+mod snapshots;
 mod traces;
 
 pub use block_store::Spot;

@@ -7,6 +7,7 @@ use crate::schedule::{first_ready_at, is_ready_at, next_op, settle};
 use block_store::{Answer, Spot, Store};
 use frame_stack::Callers;
 use mem_base::{Ask, Entry, Grant, History, List, Step, Texts, Totals, Trace, TrackId};
+use snap_store::Snapshots;
 use sources::{ArenaSource, RawSource};
 use std::alloc::{AllocError, Global};
 use std::marker::{Model, Send};
@@ -80,6 +81,8 @@ impl Machine {
                 owner: None,
                 callers,
                 tracing: Tracing::new(alloc),
+                ranks: None,
+                snapshots: Snapshots::new(alloc),
             },
             progress,
             faulted: false,
@@ -167,6 +170,8 @@ impl Machine {
             owner: _,
             callers: _,
             tracing: _,
+            ranks: _,
+            snapshots: _,
         } = held;
         store.end(arenas, raws);
         history
@@ -238,12 +243,13 @@ impl Machine {
             (IsPassedOn (A.seen arenas.old) (A.seen arenas.new) (R.seen raws.old) (R.seen raws.new)) }
         ensures held { AreOut self.new.arenas self.new.raws (A.seen arenas.new) (R.seen raws.new) }
     {
+        let trace = &self.trace;
         let at = self.progress.done[t as usize];
-        let Some(op) = next_op(&self.trace, t, at) else {
+        let Some(op) = next_op(trace, t, at) else {
             unreachable!()
         };
         self.history.entries.push(quiet_entry(t, at))?;
-        match self.held.act(self.alloc, t, op, arenas, raws) {
+        match self.held.act(self.alloc, t, op, &trace.texts, arenas, raws) {
             Ok(Answer { reply, asked }) => {
                 let entry = Entry {
                     arena: asked.arena,
@@ -251,13 +257,7 @@ impl Machine {
                     ..quiet_entry(t, at)
                 };
                 self.history.entries.set_last(entry);
-                self.faulted = settle(
-                    &self.trace,
-                    &mut self.held.owner,
-                    &mut self.progress,
-                    t,
-                    &reply,
-                );
+                self.faulted = settle(trace, &mut self.held.owner, &mut self.progress, t, &reply);
                 Ok(Step { entry, reply })
             }
             Err(error) => {

@@ -7,13 +7,14 @@ ghost use Rattle.std.specs.Prelude.{◌≡◌, ◌≤◌, ◌+◌, ◌<◌, ◌^
 ghost use Rattle.std.specs.Prelude.{length, slice_index, slice_set, IfSome, IfNone, None, is_some, not};
 ghost use Rattle.std.specs.Option.{option_copied};
 ghost use Rattle.mem_base.specs.Name.{Name};
-ghost use Rattle.trace_model.specs.Plain.{action_of, plain};
+ghost use Rattle.trace_model.specs.Plain.{plain};
 ghost use Rattle.trace_model.specs.Known.{op_at};
 ghost use Rattle.event_model.specs.Effects.{may_do_next};
 ghost use Rattle.event_model.specs.Events.{let_go};
 ghost use Rattle.event_model.specs.Schedule.{IsFirstReady};
 ghost use Rattle.event_model.specs.Replies.{is_fault as is_fault_reply, plain_reply};
 ghost use Rattle.event_model.specs.State.{is_owner};
+ghost use Rattle.machine_core.specs.Deeds.{deed_for};
 ghost use Rattle.machine_core.specs.Progress.{IsProgress};
 ghost use Rattle.machine_core.specs.Ready.{is_ready_now};
 
@@ -37,38 +38,14 @@ pub(crate) fn has_op(trace: &Trace, t: TrackId, at: u32) -> bool
     next_op(trace, t, at).is_some()
 }
 
-// Whether the track need not wait for another track to do this.
+// Whether the track need not wait for another track to do this: only the lock is waited for.
 fn may_go_on(owner: Option<TrackId>, t: TrackId, op: &Op) -> bool
-    ensures { (texts : List Name) → result ≡ may_do_next owner t (action_of texts op.now) }
+    ensures { (texts : List Name) → result ≡ may_do_next owner t (deed_for texts op.now) }
 {
-    match op {
-        Op::Acquire => owner.is_none() || owner == Some(t),
-        Op::Release
-        | Op::Malloc(_, _, _)
-        | Op::Calloc(_, _, _, _)
-        | Op::Realloc(_, _, _)
-        | Op::Free(_, _)
-        | Op::Poke(_, _, _)
-        | Op::Peek(_, _, _)
-        | Op::Enter(_, _)
-        | Op::Line(_)
-        | Op::Leave
-        | Op::Start(_)
-        | Op::Stop
-        | Op::Clear
-        | Op::ResetPeak
-        | Op::Traced
-        | Op::Mark(_, _, _)
-        | Op::Unmark(_, _)
-        | Op::Origin(_)
-        | Op::Snapshot(_)
-        | Op::Keep(_, _, _)
-        | Op::Stats(_, _, _, _)
-        | Op::Compare(_, _, _, _, _)
-        | Op::Dump(_)
-        | Op::Heap
-        | Op::Refuse(_, _) => true,
+    if !matches!(op, Op::Acquire) {
+        return true;
     }
+    owner.is_none() || owner == Some(t)
 }
 
 /// Whether the track has an operation left, and needs wait for no other; a track that is none has nothing

@@ -22,11 +22,13 @@ ghost use Rattle.mem_base.specs.Name.{Name};
 ghost use Rattle.mem_base.specs.declared.trace.Op.TheVariants as ops;
 ghost use Rattle.tracing_model.specs.Traces.{of_block};
 ghost use Rattle.tracing_model.specs.Tracing.{gets};
-ghost use Rattle.trace_model.specs.Plain.{text_at, IsKnownAmong};
+ghost use Rattle.mem_base.specs.Texts.{text_at};
+ghost use Rattle.trace_model.specs.Plain.{IsKnownAmong};
 ghost use Rattle.event_model.specs.Replies.{plain_reply, IsKnownReply};
 ghost use Rattle.event_model.specs.Replies.{is_ok as is_ok_reply};
 ghost use Rattle.domain_api.specs.Domains.{not_asked};
-ghost use Rattle.machine_core.specs.Acts.{is_quiet, Acts, IsSound};
+ghost use Rattle.machine_core.specs.Acts.{Acts, IsSound};
+ghost use Rattle.machine_core.specs.Deeds.{is_quiet};
 ghost use Rattle.machine_core.specs.Held.{IsAsItWas};
 ghost use Rattle.machine_core.specs.Prepared.{HasRoom, IsPrepared, IsPreparedFor, IsTraceBy, Makes};
 
@@ -188,7 +190,7 @@ impl Held {
     /// The frames of a block's trace. The error is want of memory.
     pub(crate) fn origin(&self, alloc: Global, name: TextId) -> Result<Reply, AllocError>
         requires known { name.0 < length self.now.store.blocks }
-        requires sound { IsSound self.now }
+        requires sound { (names : List Name) × IsSound names self.now }
         ensures acts { (t : ℕ) → IfOk result (Acts t (ops.Origin name) self.now self.now not_asked) }
         ensures known { IfOk result (IsKnownReply (length self.now.store.blocks)) }
     {

@@ -1,8 +1,11 @@
 -- A table of texts: each text has one number, which is its index, and the first is the unknown one.
-use Rattle.std.specs.Prelude.{◌≡◌, ℕ, List, [], ◌∷◌, ◌++◌, ◌<◌, ◌^◌, map, length, slice_get, codes, Some, if◌then◌else◌}
+use Rattle.std.specs.Prelude.{◌≡◌, ℕ, List, [], ◌∷◌, ◌++◌, ◌<◌, ◌^◌, map, length, slice_get, codes, Some}
+use Rattle.std.specs.Prelude.{if◌then◌else◌, unwrap_or}
 use Rattle.std.specs.List.{list_any}
 use Rattle.std.specs.Str.{bytes_eq}
+use Rattle.mem_base.specs.Name.{Name}
 use Rattle.mem_base.specs.declared.texts.Key.{Key}
+use Rattle.mem_base.specs.declared.texts.TextId.{TextId}
 
 -- the texts that a table's keys hold
 abbrev pub texts_of : List Key → List (List ℕ)
@@ -25,3 +28,7 @@ pub record IsTable (texts : List (List ℕ)) : Type 0 where
   pub first : slice_get texts 0 ≡ Some unknown
   pub distinct : IsDistinct texts
   pub few : length texts < 2 ^ 32
+
+-- the text with that number
+abbrev pub text_at : List Name → TextId → Name
+text_at texts id = unwrap_or (slice_get texts id.0) []

@@ -13,13 +13,14 @@ use Rattle.mem_base.specs.declared.reply.UsedPool.{UsedPool}
 use Rattle.mem_base.specs.declared.reply.View.{View}
 use Rattle.mem_base.specs.Name.{Name}
 use Rattle.frame_model.specs.Frames.{PlainFrame}
+use Rattle.snapshot_model.specs.Stats.{PlainGroup}
 use Rattle.trace_model.specs.Plain.{Action, PlainTrack, name_of}
 use Rattle.trace_model.specs.Operands.{hex_word}
 use Rattle.trace_model.specs.Spelling.{line_of, blank, line_end}
 use Rattle.event_model.specs.Events.{next_action, event}
 use Rattle.event_model.specs.History.{opening, last_state, totals_of}
 use Rattle.event_model.specs.Replies.{PlainReply, ok, null, busy, absent, outside, held, not_held, not_tracing}
-use Rattle.event_model.specs.Replies.{untraced, traced, frames, bytes, shape, fault, unsaid}
+use Rattle.event_model.specs.Replies.{no_snapshot, untraced, traced, frames, kept, groups, bytes, shape, fault, unsaid}
 use Rattle.event_model.specs.State.{State}
 
 -- ---- the text of an event
@@ -34,7 +35,15 @@ traced_word current most = decimal current ++ blank ∷ decimal most
 
 -- how many frames a trace keeps, and of how many
 unfoldable pub frames_word : ℕ → ℕ → List ℕ
-frames_word kept total = codes "frames " ++ decimal kept ++ codes " of " ++ decimal total
+frames_word some total = codes "frames " ++ decimal some ++ codes " of " ++ decimal total
+
+-- how many traces a snapshot has
+unfoldable pub kept_word : ℕ → List ℕ
+kept_word count = codes "ok " ++ decimal count
+
+-- how many groups the statistics have
+unfoldable pub groups_word : ℕ → List ℕ
+groups_word count = codes "groups " ++ decimal count
 
 -- what stands behind the equals sign; a reply that no operation gives has no word
 abbrev pub reply_word : PlainReply → List ℕ
@@ -46,9 +55,12 @@ reply_word outside = codes "outside"
 reply_word held = codes "held"
 reply_word not_held = codes "not_held"
 reply_word not_tracing = codes "not_tracing"
+reply_word no_snapshot = codes "no_snapshot"
 reply_word untraced = codes "none"
 reply_word (traced current most) = traced_word current most
-reply_word (frames kept total) = frames_word (length kept) total
+reply_word (frames fs total) = frames_word (length fs) total
+reply_word (kept count) = kept_word count
+reply_word (groups count first) = groups_word count
 reply_word (bytes found) = hex_word found
 reply_word (shape v) = shape_word v
 reply_word (fault found block) = codes "fault"
@@ -106,13 +118,27 @@ class_line c =
 abbrev pub shape_lines : View → List ℕ
 shape_lines v = flat_map arena_line v.arenas ++ flat_map class_line v.classes
 
--- a frame that a trace keeps: its file and its line
+-- a frame: its file and its line
+unfoldable pub frame_word : PlainFrame → List ℕ
+frame_word f = f.file ++ codes ":" ++ decimal f.line
+
+-- a frame that a trace keeps
 unfoldable pub frame_line : PlainFrame → List ℕ
-frame_line f = codes "  " ++ f.file ++ codes ":" ++ decimal f.line ++ line_end ∷ []
+frame_line f = codes "  " ++ frame_word f ++ line_end ∷ []
 
 -- a line for each frame, oldest first
 abbrev pub frame_lines : List PlainFrame → List ℕ
-frame_lines kept = flat_map frame_line kept
+frame_lines fs = flat_map frame_line fs
+
+-- a group of statistics: its size, how often its key occurs, and the key, its frames oldest first
+unfoldable pub group_line : PlainGroup → List ℕ
+group_line g =
+    codes "  " ++ decimal g.size ++ blank ∷ decimal g.count ++ blank ∷ join_with_byte blank (map frame_word g.key)
+    ++ line_end ∷ []
+
+-- a line for each group, the greatest first
+abbrev pub group_lines : List PlainGroup → List ℕ
+group_lines first = flat_map group_line first
 
 -- the lines of a fault, and of the block that it was found in, which has this name
 abbrev pub fault_lines : Name → Fault → Option BlockReport → List ℕ
@@ -130,9 +156,12 @@ more_lines name outside = []
 more_lines name held = []
 more_lines name not_held = []
 more_lines name not_tracing = []
+more_lines name no_snapshot = []
 more_lines name untraced = []
 more_lines name (traced current most) = []
-more_lines name (frames kept total) = frame_lines kept
+more_lines name (frames fs total) = frame_lines fs
+more_lines name (kept count) = []
+more_lines name (groups count first) = group_lines first
 more_lines name (bytes found) = []
 more_lines name (shape v) = shape_lines v
 more_lines name (fault found block) = fault_lines name found block

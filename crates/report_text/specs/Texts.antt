@@ -1,9 +1,12 @@
 -- The texts of a step and of a run's numbers, over the trace that was run.
-use Rattle.std.specs.Prelude.{◌≡◌, ℕ, List, ◌++◌, length, drop, slice_get}
+use Rattle.std.specs.Prelude.{◌≡◌, ℕ, List, ◌∷◌, ◌++◌, length, drop, slice_get}
 use Rattle.mem_base.specs.declared.reply.Step.{Step}
 use Rattle.mem_base.specs.declared.reply.Totals.{Totals}
+use Rattle.mem_base.specs.declared.trace.Rule.{Rule}
 use Rattle.mem_base.specs.declared.trace.Trace.{Trace}
 use Rattle.trace_model.specs.Plain.{plain}
+use Rattle.trace_model.specs.Rules.{rule_word}
+use Rattle.trace_model.specs.Spelling.{blank}
 use Rattle.event_model.specs.Events.{action_after}
 use Rattle.event_model.specs.Replies.{plain_reply}
 use Rattle.report_model.specs.Report.{lines_for, owner_word, summary_lines}
@@ -22,3 +25,7 @@ summary_of trace totals status = summary_lines (owner_word (plain trace).tracks 
 -- what stood in a text stands in front of it still
 abbrev pub StaysInFront : List ℕ → List ℕ → Type 0
 StaysInFront old new = new ≡ old ++ drop (length old) new
+
+-- a rule with the blank before it
+abbrev pub next_rule : Rule → List ℕ
+next_rule r = blank ∷ rule_word r

@@ -1,20 +1,22 @@
-//! The text of an event: its line, and below it the shape of a heap, the frames of a trace or what a fault
-//! found.
-ghost use Rattle.std.specs.Prelude.{◌≡◌, ◌<◌, ◌++◌, List, length, All, IfOk, OnOk, OnErr, IsSome, Some};
+//! The text of an event: its line, and below it the shape of a heap, the frames of a trace, the groups of
+//! statistics or what a fault found.
+ghost use Rattle.std.specs.Prelude.{◌≡◌, ◌++◌, List, length, IfOk, OnOk, OnErr, IsSome, Some};
 ghost use Rattle.std.specs.List.{flat_map};
 ghost use Rattle.mem_base.specs.Name.{Name};
 ghost use Rattle.trace_model.specs.Plain.{action_of, text_at};
 ghost use Rattle.trace_model.specs.Known.{IsKnown, IsKnownOp, IsKnownTrace, op_at};
-ghost use Rattle.event_model.specs.Replies.{frame_of, frames_of, plain_reply, IsKnownReply};
+ghost use Rattle.event_model.specs.Replies.{plain_reply, IsKnownReply};
 ghost use Rattle.report_model.specs.Report.{reply_word, event_line, event_lines, fault_line, block_line};
 ghost use Rattle.report_model.specs.Report.{head_line, tail_line, shape_word, arena_line, pool_word};
 ghost use Rattle.report_model.specs.Report.{pools_word, class_line, shape_lines, fault_lines, more_lines};
-ghost use Rattle.report_model.specs.Report.{block_name, frame_line, frame_lines, frames_word, traced_word};
+ghost use Rattle.report_model.specs.Report.{block_name, frames_word, groups_word, kept_word, traced_word};
 ghost use Rattle.report_text.specs.Texts.{step_text, StaysInFront};
 
+use crate::frames::push_frame_lines;
+use crate::groups::push_group_lines;
 use crate::words::{push_hex, push_name, push_number, push_op, push_wide};
 use mem_base::{
-    ArenaLine, BlockReport, ClassLine, Fault, Frame, List, Op, Reply, Step, TextId, Texts, Trace,
+    ArenaLine, BlockReport, ClassLine, Fault, List, Op, Reply, Step, TextId, Texts, Trace,
     UsedPool, View,
 };
 use std::alloc::{AllocError, Global};
@@ -47,7 +49,7 @@ fn push_traced(text: &mut Vec<u8>, current: u128, most: u128) -> Result<(), Allo
 
 // How many frames a trace keeps, and of how many.
 #[tactic(auto, unfolding(report_model::specs::Report::frames_word))]
-fn push_kept(text: &mut Vec<u8>, kept: usize, total: u32) -> Result<(), AllocError>
+fn push_frame_count(text: &mut Vec<u8>, kept: usize, total: u32) -> Result<(), AllocError>
     ensures ok { OnOk result (text.new.items ≡ text.old.items ++ frames_word kept total) }
     ensures err { OnErr result (StaysInFront text.old.items text.new.items) }
 {
@@ -55,6 +57,26 @@ fn push_kept(text: &mut Vec<u8>, kept: usize, total: u32) -> Result<(), AllocErr
     push_number(text, kept as u64)?;
     text.extend_from_slice(b" of ")?;
     push_number(text, u64::from(total))
+}
+
+// How many traces a snapshot has.
+#[tactic(auto, unfolding(report_model::specs::Report::kept_word))]
+fn push_kept(text: &mut Vec<u8>, count: u64) -> Result<(), AllocError>
+    ensures ok { OnOk result (text.new.items ≡ text.old.items ++ kept_word count) }
+    ensures err { OnErr result (StaysInFront text.old.items text.new.items) }
+{
+    text.extend_from_slice(b"ok ")?;
+    push_number(text, count)
+}
+
+// How many groups statistics have.
+#[tactic(auto, unfolding(report_model::specs::Report::groups_word))]
+fn push_group_count(text: &mut Vec<u8>, count: u64) -> Result<(), AllocError>
+    ensures ok { OnOk result (text.new.items ≡ text.old.items ++ groups_word count) }
+    ensures err { OnErr result (StaysInFront text.old.items text.new.items) }
+{
+    text.extend_from_slice(b"groups ")?;
+    push_number(text, count)
 }
 
 fn push_reply(text: &mut Vec<u8>, reply: &Reply) -> Result<(), AllocError>
@@ -71,17 +93,16 @@ fn push_reply(text: &mut Vec<u8>, reply: &Reply) -> Result<(), AllocError>
         Reply::Held => text.extend_from_slice(b"held"),
         Reply::NotHeld => text.extend_from_slice(b"not_held"),
         Reply::NotTracing => text.extend_from_slice(b"not_tracing"),
+        Reply::NoSnapshot => text.extend_from_slice(b"no_snapshot"),
         Reply::Untraced => text.extend_from_slice(b"none"),
         Reply::Traced(current, most) => push_traced(text, *current, *most),
-        Reply::Frames(kept, total) => push_kept(text, kept.len(), *total),
+        Reply::Kept(count) => push_kept(text, *count),
+        Reply::Frames(kept, total) => push_frame_count(text, kept.len(), *total),
+        Reply::Groups(count, _) => push_group_count(text, *count),
         Reply::Bytes(bytes) => push_hex(text, bytes.as_slice()),
         Reply::Heap(view) => push_shape(text, view),
         Reply::Fault(_, _) => text.extend_from_slice(b"fault"),
-        Reply::NoSnapshot
-        | Reply::Kept(_)
-        | Reply::Groups(_, _)
-        | Reply::Diffs(_, _)
-        | Reply::Dumped(_) => Ok(()),
+        Reply::Diffs(_, _) | Reply::Dumped(_) => Ok(()),
     }
 }
 
@@ -198,33 +219,6 @@ fn push_shape_lines(text: &mut Vec<u8>, view: &View) -> Result<(), AllocError>
     push_class_lines(text, view.classes.as_slice())
 }
 
-// ---- the frames of a trace
-
-#[tactic(auto, unfolding(report_model::specs::Report::frame_line))]
-fn push_frame_line(text: &mut Vec<u8>, texts: &Texts, frame: Frame) -> Result<(), AllocError>
-    requires { IsKnown texts.now frame.file }
-    ensures ok { OnOk result (text.new.items ≡ text.old.items ++ frame_line (frame_of texts.now frame)) }
-    ensures err { OnErr result (StaysInFront text.old.items text.new.items) }
-{
-    text.extend_from_slice(b"  ")?;
-    text.extend_from_slice(texts.get(frame.file))?;
-    text.push(b':')?;
-    push_number(text, u64::from(frame.line))?;
-    text.push(b'\n')?;
-    Ok(())
-}
-
-fn push_frame_lines(text: &mut Vec<u8>, texts: &Texts, kept: &[Frame]) -> Result<(), AllocError>
-    requires { All (λ f. IsKnown texts.now f.file) kept.now }
-    ensures ok { OnOk result (text.new.items ≡ text.old.items ++ frame_lines (frames_of texts.now kept.now)) }
-    ensures err { OnErr result (StaysInFront text.old.items text.new.items) }
-{
-    for frame in kept {
-        push_frame_line(text, texts, *frame)?;
-    }
-    Ok(())
-}
-
 // ---- what a fault found
 
 #[tactic(auto, unfolding(report_model::specs::Report::fault_line))]
@@ -337,6 +331,7 @@ fn push_more_lines(
     match reply {
         Reply::Heap(view) => push_shape_lines(text, view),
         Reply::Frames(kept, _) => push_frame_lines(text, texts, kept.as_slice()),
+        Reply::Groups(_, first) => push_group_lines(text, texts, first.as_slice()),
         Reply::Fault(fault, None) => push_fault_line(text, *fault),
         Reply::Fault(fault, Some(block)) => push_block(text, *fault, name, block),
         Reply::Ok
@@ -352,7 +347,6 @@ fn push_more_lines(
         | Reply::Bytes(_)
         | Reply::Traced(_, _)
         | Reply::Kept(_)
-        | Reply::Groups(_, _)
         | Reply::Diffs(_, _)
         | Reply::Dumped(_) => Ok(()),
     }

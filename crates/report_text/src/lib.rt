@@ -3,8 +3,8 @@
 //! digits each, and sizes are in bytes.
 //!
 //! The first line of an event is its number, the name of its track, the operation as the trace
-//! spells it, an equals sign and the reply. A heap's shape, the frames of a trace and a fault have
-//! further lines, which begin with two blanks:
+//! spells it, an equals sign and the reply. A heap's shape, the frames of a trace, the groups of
+//! statistics and a fault have further lines, which begin with two blanks:
 //!
 //! ```text
 //! 3 t heap = pool 1 raw 0
@@ -13,7 +13,10 @@
 //! 5 t where x = frames 2 of 3
 //!   load.py:10
 //!   read.py:7
-//! 6 t free m x = fault
+//! 6 t keep u s ex,top,*,*,lib/* = ok 2
+//! 7 t stats u lineno plain 1 = groups 2
+//!   30 1 read.py:7
+//! 8 t free m x = fault
 //!   bad_tail 0
 //!   block x size 32
 //!   head 6dfdfdfdfdfdfdfd
@@ -29,6 +32,11 @@
 //! oldest first, and those that there were; it is `none` where the block has no trace. The reply of
 //! `traced` is two numbers, the bytes that are traced and the most that were.
 //!
+//! The reply of `snapshot` and of `keep` has the number of traces in the snapshot that they write. That of
+//! `stats` counts all groups; the lines below it are those of the first groups, as many as were asked for at
+//! most: the sum of the sizes, how often the key occurs, and the key, which is frames with blanks between,
+//! the oldest first. Of a name that has no snapshot the reply is `no_snapshot`.
+//!
 //! The summary is five lines:
 //!
 //! ```text
@@ -43,6 +51,9 @@
 #![tactic(auto)]
 
 mod events;
+mod frames;
+mod groups;
+mod rules;
 mod summary;
 #[cfg(test)]
 mod tests;

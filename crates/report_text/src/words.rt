@@ -2,15 +2,16 @@
 //! that was read spells it, with keywords from the one table of `trace_model`.
 ghost use Rattle.std.specs.Prelude.{◌≡◌, ◌+◌, ◌%◌, ◌++◌, ◌∷◌, ◌<◌, OnOk, OnErr, decimal};
 ghost use Rattle.std.specs.Fmt.{signed_decimal};
-ghost use Rattle.trace_model.specs.Operands.{hex_word, letter_word, side_word, glyph};
+ghost use Rattle.trace_model.specs.Operands.{hex_word, key_word, letter_word, mode_word, side_word, glyph};
 ghost use Rattle.trace_model.specs.Plain.{action_of, keyword_text, text_at, refuse};
-ghost use Rattle.trace_model.specs.Plain.{enter, go_to, mark, start_tracing, unmark};
+ghost use Rattle.trace_model.specs.Plain.{enter, go_to, mark, snapshot, start_tracing, stats, unmark};
 ghost use Rattle.trace_model.specs.Known.{IsKnown, IsKnownOp};
 ghost use Rattle.trace_model.specs.Spelling.{line_of, blank};
 ghost use Rattle.report_text.specs.Texts.{StaysInFront};
 
+use crate::rules::push_keep;
 use itoa::Buffer;
-use mem_base::{Letter, Op, Side, TextId, Texts};
+use mem_base::{KeyKind, Letter, Op, Side, TextId, Texts};
 use std::alloc::AllocError;
 use trace_model::Keyword;
 
@@ -103,7 +104,7 @@ pub(crate) fn push_hex(text: &mut Vec<u8>, bytes: &[u8]) -> Result<(), AllocErro
 
 // The keyword of an operation, which its line begins with.
 #[inline(always)]
-fn push_keyword(text: &mut Vec<u8>, keyword: Keyword) -> Result<(), AllocError>
+pub(crate) fn push_keyword(text: &mut Vec<u8>, keyword: Keyword) -> Result<(), AllocError>
     ensures ok { OnOk result (text.new.items ≡ text.old.items ++ keyword_text keyword) }
     ensures err { OnErr result (StaysInFront text.old.items text.new.items) }
 {
@@ -212,6 +213,60 @@ fn push_unmark(text: &mut Vec<u8>, domain: u32, number: u64) -> Result<(), Alloc
     push_operand(text, number)
 }
 
+// A blank and the word of what statistics are grouped by.
+fn push_key_kind(text: &mut Vec<u8>, key: KeyKind) -> Result<(), AllocError>
+    ensures ok { OnOk result (text.new.items ≡ text.old.items ++ blank ∷ key_word key) }
+    ensures err { OnErr result (StaysInFront text.old.items text.new.items) }
+{
+    match key {
+        KeyKind::Filename => text.extend_from_slice(b" filename"),
+        KeyKind::Lineno => text.extend_from_slice(b" lineno"),
+        KeyKind::Traceback => text.extend_from_slice(b" traceback"),
+    }
+}
+
+// A blank, and whether each kept frame counts or the most recent one alone.
+fn push_mode(text: &mut Vec<u8>, cumulative: bool) -> Result<(), AllocError>
+    ensures ok { OnOk result (text.new.items ≡ text.old.items ++ blank ∷ mode_word cumulative) }
+    ensures err { OnErr result (StaysInFront text.old.items text.new.items) }
+{
+    match cumulative {
+        true => text.extend_from_slice(b" cumulative"),
+        false => text.extend_from_slice(b" plain"),
+    }
+}
+
+// The line of a snapshot, without its end.
+fn push_snapshot(text: &mut Vec<u8>, texts: &Texts, name: TextId) -> Result<(), AllocError>
+    requires { IsKnown texts.now name }
+    ensures ok { OnOk result (text.new.items ≡ text.old.items ++ line_of (snapshot (text_at texts.now name))) }
+    ensures err { OnErr result (StaysInFront text.old.items text.new.items) }
+{
+    push_keyword(text, Keyword::Snapshot)?;
+    push_name(text, texts, name)
+}
+
+// The line of statistics, without its end.
+fn push_stats(
+    text: &mut Vec<u8>,
+    texts: &Texts,
+    name: TextId,
+    key: KeyKind,
+    cumulative: bool,
+    most: u32,
+) -> Result<(), AllocError>
+    requires { IsKnown texts.now name }
+    ensures ok { OnOk result (text.new.items
+        ≡ text.old.items ++ line_of (stats (text_at texts.now name) key cumulative most)) }
+    ensures err { OnErr result (StaysInFront text.old.items text.new.items) }
+{
+    push_keyword(text, Keyword::Stats)?;
+    push_name(text, texts, name)?;
+    push_key_kind(text, key)?;
+    push_mode(text, cumulative)?;
+    push_operand(text, u64::from(most))
+}
+
 // The line of an operation, without its end.
 #[inline(always)]
 pub(crate) fn push_op(text: &mut Vec<u8>, texts: &Texts, op: &Op) -> Result<(), AllocError>
@@ -280,12 +335,18 @@ pub(crate) fn push_op(text: &mut Vec<u8>, texts: &Texts, op: &Op) -> Result<(), 
             push_keyword(text, Keyword::Where)?;
             push_name(text, texts, *name)
         }
+        Op::Snapshot(name) => push_snapshot(text, texts, *name),
+        Op::Keep(new, old, rules) => push_keep(text, texts, *new, *old, rules.as_slice()),
+        Op::Stats(name, key, cumulative, most) => push_stats(
+            text,
+            texts,
+            *name,
+            *key,
+            *cumulative,
+            *most,
+        ),
         Op::Heap => push_keyword(text, Keyword::Heap),
         Op::Refuse(side, number) => push_refusal(text, *side, *number),
-        Op::Snapshot(_)
-        | Op::Keep(_, _, _)
-        | Op::Stats(_, _, _, _)
-        | Op::Compare(_, _, _, _, _)
-        | Op::Dump(_) => unreachable!(),
+        Op::Compare(_, _, _, _, _) | Op::Dump(_) => unreachable!(),
     }
 }

@@ -1,30 +1,105 @@
 -- A front of groups in order.
-use Rattle.std.proofs.Common.{◌≡◌, ℕ, List, ◌∷◌, ◌++◌, get_or, false}
-use Rattle.std.specs.Prelude.{All}
+use Rattle.std.proofs.Common.{◌≡◌, ℕ, zero, suc, ◌+◌, ◌<◌, List, [], ◌∷◌, ◌++◌, map, length, get_or, false, refl, sym, subst, ◌∙◌}
+use Rattle.std.proofs.Common.{arith, inl, inr}
 use Rattle.std.specs.Ordering.{is_lt}
-use Rattle.std.specs.List.Sorted.{IsPermutation, IsSplitAround}
-use Rattle.std.proofs.lemmas.List.Elements.{All-cons}
-use Rattle.std.proofs.lemmas.List.Sorted.{ranks_by, All-permutation, IsPermutation-trans, IsPermutation-append_left}
-use Rattle.mem_base.specs.declared.reply.Frame.{Frame}
-use Rattle.snapshot_model.specs.Stats.{group_cmp}
-use Rattle.snapshot_model.proofs.CallerLemmas.{group_cmp_total}
-use Rattle.snap_stats.specs.declared.sums.NumberedGroup.{NumberedGroup}
-use Rattle.snap_stats.specs.Numbers.{group_for, AreInOrder, IsFrontOf}
+use Rattle.std.specs.List.Sorted.{IsPermutation, IsSplitAround, IsSorted}
+use Rattle.std.proofs.lemmas.List.{length-map, map-append, append-nil}
+use Rattle.std.proofs.lemmas.List.Sorted.{ranks_by, IsPermutation-map, IsPermutation-trans, IsPermutation-append_left, IsPermutation-sym}
+use Rattle.std.proofs.lemmas.List.Sorted.{Contains-permutation, sum_by-IsPermutation}
+use Rattle.std.proofs.lemmas.List.Sums.{sum_by-cons}
+use Rattle.std.specs.List.{sum_by}
+use Rattle.extents.specs.Sums.{tally, Has}
+use Rattle.extents.proofs.CallerLemmas.{has_at, tally_length}
+use Rattle.mem_base.specs.Name.{Name}
+use Rattle.mem_base.specs.declared.reply.Group.{Group}
+use Rattle.snapshot_model.specs.Stats.{group_cmp, plain_group}
+use Rattle.snapshot_model.proofs.CallerLemmas.{group_cmp_total, from_map}
+use Rattle.snap_stats.specs.declared.groups.Summed.{Summed}
+use Rattle.snap_stats.specs.Groups.{whole, AreInOrder, IsFrontOf}
 
--- what stands before the place that the groups are split at, moved into order
+-- ---- members and permutations
+
+module _ {X : Type 0} where
+  -- where a member stands
+  pub place_of : (x : X) (xs : List X) → Has x xs → (k : ℕ) × (k < length xs) × (get_or xs k x ≡ x)
+  place_of x [] h = absurd h
+  place_of x (y ∷ ys) (inl e) = (0, omega arith, e)
+  place_of x (y ∷ ys) (inr h) = let r = place_of x ys h in (suc r.0, omega arith, r.2)
+
+  pub has_moved : (x : X) (xs ys : List X) → IsPermutation xs ys → Has x xs → Has x ys
+  has_moved x xs ys p h =
+      let r = Contains-permutation xs ys x p (place_of x xs h) in
+      subst (λ (z : X). Has z ys) r.2 (has_at ys r.0 x r.1)
+
+  pub tally_sum : (f : X → ℕ) (xs : List X) → tally f xs ≡ sum_by f xs
+  tally_sum f [] = refl
+  tally_sum f (x ∷ xs) = let e = tally_sum f xs in omega (arith, sum_by-cons f x xs)
+
+  pub tally_moved : (f : X → ℕ) (xs ys : List X) → IsPermutation xs ys → tally f ys ≡ tally f xs
+  tally_moved f xs ys p = tally_sum f ys ∙ sum_by-IsPermutation f xs ys p ∙ sym (tally_sum f xs)
+
+  pub mapped_at : {Y : Type 0} (f : X → Y) (xs : List X) (k : ℕ) (d : Y) (e : X) → k < length xs → get_or (map f xs) k d ≡ f (get_or xs k e)
+  mapped_at f [] k d e h = absurd (omega arith)
+  mapped_at f (x ∷ xs) zero d e h = refl
+  mapped_at f (x ∷ xs) (suc k) d e h = mapped_at f xs k d e (omega arith)
+
+-- ---- whole groups
+
+abbrev InOrder : List Name → List Summed → Type 0
+InOrder texts xs = IsSorted (λ a b. group_cmp (plain_group texts (whole b)) (plain_group texts (whole a))) xs
+
+pub whole_in_order : (texts : List Name) (xs : List Summed) → InOrder texts xs → AreInOrder texts (map whole xs)
+whole_in_order texts [] sorted = λ k d z lt. absurd (omega arith)
+whole_in_order texts (x ∷ xs) sorted = λ k d z lt.
+    let all = x ∷ xs in
+    let long : length (map whole all) ≡ length all = length-map all whole in
+    let a = mapped_at whole all k d x (omega (arith, long)) in
+    let b = mapped_at whole all (k + 1) d x (omega (arith, long)) in
+    let h = sorted k x z (omega (arith, long)) in
+    (λ i. is_lt (group_cmp (plain_group texts (a i)) (plain_group texts (b i)))) ∙ h
+
+pub as_many : (xs : List Summed) (gs : List Group) → IsPermutation (map whole xs) gs → length gs ≡ length xs
+as_many xs gs p =
+    sym (tally_length gs) ∙ tally_moved (λ _. 1) (map whole xs) gs p ∙ tally_length (map whole xs) ∙ length-map xs whole
+
+-- all groups are a front with nothing behind
+pub is_whole : (texts : List Name) (groups all : List Group) → IsPermutation groups all → AreInOrder texts all → IsFrontOf texts groups all
+is_whole texts groups all same sorted = record {
+  rest = [];
+  sorted = sorted;
+  same = subst (IsPermutation groups) (sym (append-nil all)) same;
+  above = λ a b h k. absurd k;
+}
+
+-- what stands before the place that the groups are parted at, in order
 pub is_front :
-    (texts : List (List ℕ)) (keys : List (List Frame)) (groups front moved back : List NumberedGroup) (x : NumberedGroup)
+    (texts : List Name) (groups front back : List Summed) (x : Summed) (first : List Group)
     → IsPermutation groups (front ++ x ∷ back)
-    → IsSplitAround (λ a b. group_cmp (group_for texts keys b) (group_for texts keys a)) front x back
-    → IsPermutation front moved → AreInOrder texts keys moved → IsFrontOf texts keys groups moved
-is_front texts keys groups front moved back x all split perm sorted =
-    let plain = group_for texts keys in
-    let order = ranks_by group_cmp_total plain in
-    let Q : NumberedGroup → NumberedGroup → Type 0 = λ (a b : NumberedGroup). is_lt (group_cmp (plain a) (plain b)) ≡ false in
-    record {
-      rest = x ∷ back;
-      sorted = sorted;
-      same = IsPermutation-trans groups (front ++ x ∷ back) (moved ++ x ∷ back) all (IsPermutation-append_left (x ∷ back) front moved perm);
-      above = All-permutation (λ (a : NumberedGroup). All (Q a) (x ∷ back)) front moved perm
-          (λ k d h. All-cons (Q (get_or front k d)) x back (split.0 k d h) (λ j e g. order.chain (get_or front k d) x (get_or back j e) (split.0 k d h) (split.1 j e g)));
-    }
+    → IsSplitAround (λ a b. group_cmp (plain_group texts (whole b)) (plain_group texts (whole a))) front x back
+    → IsPermutation (map whole front) first → AreInOrder texts first → IsFrontOf texts (map whole groups) first
+is_front texts groups front back x first all split perm sorted =
+    record { rest = map whole (x ∷ back); sorted = sorted; same = together; above = above }
+  where
+    parted : IsPermutation (map whole groups) (map whole front ++ map whole (x ∷ back))
+    parted = subst (IsPermutation (map whole groups)) (map-append whole front (x ∷ back)) (IsPermutation-map whole groups (front ++ x ∷ back) all)
+
+    together : IsPermutation (map whole groups) (first ++ map whole (x ∷ back))
+    together = IsPermutation-trans (map whole groups) (map whole front ++ map whole (x ∷ back)) (first ++ map whole (x ∷ back)) parted (IsPermutation-append_left (map whole (x ∷ back)) (map whole front) first perm)
+
+    above : (a b : Group) → Has a first → Has b (map whole (x ∷ back)) → is_lt (group_cmp (plain_group texts a) (plain_group texts b)) ≡ false
+    above a b h k =
+        let r = from_map whole a front (has_moved a first (map whole front) (IsPermutation-sym (map whole front) first perm) h) in
+        let p = place_of r.0 front r.1 in
+        let s = from_map whole b (x ∷ back) k in
+        let order = ranks_by group_cmp_total (plain_group texts) in
+        let over : is_lt (group_cmp (plain_group texts (whole r.0)) (plain_group texts (whole x))) ≡ false
+        = subst (λ (z : Summed). is_lt (group_cmp (plain_group texts (whole z)) (plain_group texts (whole x))) ≡ false) p.2 (split.0 p.0 r.0 p.1) in
+        let under : is_lt (group_cmp (plain_group texts (whole r.0)) (plain_group texts (whole s.0))) ≡ false = elim s.1 [
+          | inl e ↦ subst (λ (z : Summed). is_lt (group_cmp (plain_group texts (whole r.0)) (plain_group texts (whole z))) ≡ false) e over
+          | inr m ↦
+              let q = place_of s.0 back m in
+              let last : is_lt (group_cmp (plain_group texts (whole x)) (plain_group texts (whole s.0))) ≡ false
+              = subst (λ (z : Summed). is_lt (group_cmp (plain_group texts (whole x)) (plain_group texts (whole z))) ≡ false) q.2 (split.1 q.0 s.0 q.1) in
+              order.chain (whole r.0) (whole x) (whole s.0) over last
+        ] in
+        (λ i. is_lt (group_cmp (plain_group texts (r.2 i)) (plain_group texts (s.2 i)))) ∙ under

@@ -1,7 +1,7 @@
 mod Adding
+mod Answering
 mod Comparing
+mod Framing
 mod Fronts
-mod Grouping
-mod Keying
-mod Numbering
-mod Occurring
+mod Totals
+mod Weighing

@@ -1,25 +1,26 @@
 //! The statistics of a snapshot: what `Snapshot.statistics` of `Lib/tracemalloc.py` does, with an order of
 //! groups that tells each two apart.
 //!
-//! Keys have numbers: a traceback has its own, and a frame, or its file alone, gets one in a table that is made
-//! for the call. Each row then adds its size up by number, no text is hashed, and texts are read only where
-//! groups of one size and one count are put in order:
+//! Sizes are added up twice. First each row adds its size to the sum of its traceback, so that whatever is made
+//! of a traceback's frames is made once for each traceback that a row has. Then each such traceback adds its
+//! sum to those of its frames that count, or stands as a group by itself:
 //!
 //! ```text
-//! row          traceback    numbers     size and count by number
-//! 100, tb 0    a:3 b:7      1           0:  20, 1      1: 130, 2
-//!  30, tb 1    b:7          1
-//!  20, tb 2    a:4          0
+//! rows           by traceback                 by line
+//! 100, tb 0      tb 0: a:3 b:7   100, 1       b:7   130, 2
+//!  30, tb 1      tb 1: b:7        30, 1       a:4    20, 1
+//!  20, tb 2      tb 2: a:4        20, 1
 //! ```
+//!
+//! Sums stand under numbers of tracebacks and of files, and no text is hashed. Texts are read only where groups of
+//! one size and one count are put in order, and only the groups that are answered are put in order at all.
 #![tactic(auto)]
 
-mod numbers;
+mod groups;
 mod order;
 mod stats;
 mod sums;
 #[cfg(test)]
 mod tests;
 
-pub use order::first_in_order;
-pub use stats::statistics;
-pub use sums::NumberedGroup;
+pub use stats::{Grouping, first_statistics};

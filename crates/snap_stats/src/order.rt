@@ -1,19 +1,28 @@
-//! The order of groups.
-ghost use Rattle.std.specs.Prelude.{◌≡◌, ◌<◌, [], length, IfOk, slice_index_or};
+//! The order of groups, and the first ones in it.
+//!
+//! Of many groups few are answered. So they are parted first, in time that grows with their number, and only
+//! what stands in front of the part is put in order:
+//!
+//! ```text
+//! 20, 130, 40, 50, 10    the groups, of which two are wanted
+//! 50, 130 | 40, 20, 10   none behind the part is above one before it
+//! 130, 50                the front in order
+//! ```
+ghost use Rattle.std.specs.Prelude.{◌≡◌, length, map, min, IfOk};
 ghost use Rattle.std.specs.List.Sorted.{IsPermutation};
-ghost use Rattle.snapshot_model.specs.Stats.{frame_cmp, key_cmp, group_cmp};
-ghost use Rattle.snap_stats.specs.Plain.{plain_frame, plain_key};
-ghost use Rattle.snap_stats.specs.Numbers.{group_for, AreInOrder, IsFrontOf};
+ghost use Rattle.mem_base.specs.Texts.{text_at};
+ghost use Rattle.frame_model.specs.Frames.{frame_of, frames_of};
+ghost use Rattle.snapshot_model.specs.Stats.{frame_cmp, key_cmp, group_cmp, plain_group};
+ghost use Rattle.snap_stats.specs.Groups.{whole, AreInOrder, IsFrontOf};
 
-use crate::sums::NumberedGroup;
-use frame_stack::{TbId, Tracebacks};
-use mem_base::{Frame, TextId, Texts};
+use crate::groups::Summed;
+use mem_base::{Frame, Group, List, TextId, Texts};
 use std::alloc::{AllocError, Global};
 use std::cmp::Ordering;
 
 // The text with that number, and the empty one past the end.
 fn text_of(texts: &Texts, id: TextId) -> &[u8]
-    ensures { result.now ≡ slice_index_or texts.now id.0 [] }
+    ensures { result.now ≡ text_at texts.now id }
 {
     if (id.0 as usize) < texts.len() {
         texts.get(id)
@@ -22,20 +31,9 @@ fn text_of(texts: &Texts, id: TextId) -> &[u8]
     }
 }
 
-/// The frames of the key with that number, and none past the end.
-pub fn frames_of(keys: &Tracebacks, number: u32) -> &[Frame]
-    ensures { result.now ≡ slice_index_or keys.now number [] }
-{
-    if (number as usize) < keys.len() {
-        keys.frames(TbId(number))
-    } else {
-        &[]
-    }
-}
-
 // Frames by their files' bytes, and then by their lines.
 fn compare_frames(texts: &Texts, a: Frame, b: Frame) -> Ordering
-    ensures { result ≡ frame_cmp (plain_frame texts.now a) (plain_frame texts.now b) }
+    ensures { result ≡ frame_cmp (frame_of texts.now a) (frame_of texts.now b) }
 {
     if a.file.0 == b.file.0 {
         return a.line.cmp(&b.line);
@@ -46,7 +44,7 @@ fn compare_frames(texts: &Texts, a: Frame, b: Frame) -> Ordering
 
 // Keys by their first frames that differ.
 fn compare_keys(texts: &Texts, a: &[Frame], b: &[Frame]) -> Ordering
-    ensures { result ≡ key_cmp (plain_key texts.now a.now) (plain_key texts.now b.now) }
+    ensures { result ≡ key_cmp (frames_of texts.now a.now) (frames_of texts.now b.now) }
 {
     let mut i = 0;
     while i < a.len() && i < b.len() {
@@ -66,46 +64,64 @@ fn compare_keys(texts: &Texts, a: &[Frame], b: &[Frame]) -> Ordering
 }
 
 // Groups by size, then by count, then by key.
-fn compare_groups(
-    texts: &Texts,
-    keys: &Tracebacks,
-    a: &NumberedGroup,
-    b: &NumberedGroup,
-) -> Ordering
-    ensures { result ≡ group_cmp (group_for texts.now keys.now a.now) (group_for texts.now keys.now b.now) }
+fn compare_groups(texts: &Texts, a: &Summed<'_>, b: &Summed<'_>) -> Ordering
+    ensures { result ≡ group_cmp (plain_group texts.now (whole a.now)) (plain_group texts.now (whole b.now)) }
 {
-    let sizes = a.size.cmp(&b.size).then(a.count.cmp(&b.count));
+    let sizes = a
+        .sum
+        .size
+        .cmp(&b.sum.size)
+        .then(a.sum.count.cmp(&b.sum.count));
     if sizes != Ordering::Equal {
         return sizes;
     }
-    compare_keys(texts, frames_of(keys, a.number), frames_of(keys, b.number))
+    compare_keys(texts, a.key, b.key)
 }
 
-/// Puts the groups in order, the greatest first.
-pub fn put_in_order(texts: &Texts, keys: &Tracebacks, groups: &mut Vec<NumberedGroup>)
-    ensures same { IsPermutation groups.old.items groups.new.items }
-    ensures sorted { AreInOrder texts.now keys.now groups.new.items }
+// The groups with the frames of their keys.
+fn whole_groups(alloc: Global, groups: &[Summed<'_>]) -> Result<List<Group>, AllocError>
+    ensures { IfOk result (λ gs. gs ≡ map whole groups.now) }
 {
-    groups.sort_unstable_by(|a, b| compare_groups(texts, keys, b, a));
+    let mut answer = List::new(alloc);
+    for group in groups {
+        answer.push(Group {
+            key: List::from_slice(alloc, group.key)?,
+            size: group.sum.size,
+            count: group.sum.count,
+        })?;
+    }
+    Ok(answer)
 }
 
-/// The first groups, in order, without an order of the rest.
+// All groups, the greatest first.
+fn all_in_order(
+    alloc: Global,
+    texts: &Texts,
+    groups: &mut [Summed<'_>],
+) -> Result<List<Group>, AllocError>
+    ensures same { IfOk result (λ gs. IsPermutation (map whole groups.old) gs) }
+    ensures sorted { IfOk result (AreInOrder texts.now) }
+{
+    groups.sort_unstable_by(|a, b| compare_groups(texts, b, a));
+    let answer = whole_groups(alloc, groups)?;
+    Ok(answer)
+}
+
+/// The first groups, the greatest first: so many, or all.
 pub fn first_in_order(
     alloc: Global,
     texts: &Texts,
-    keys: &Tracebacks,
-    groups: &mut [NumberedGroup],
-    top: usize,
-) -> Result<Vec<NumberedGroup>, AllocError>
-    requires { top < length groups.old }
-    ensures len { IfOk result (λ v. length v.items ≡ top) }
-    ensures front { IfOk result (λ v. IsFrontOf texts.now keys.now groups.old v.items) }
+    groups: &mut [Summed<'_>],
+    most: usize,
+) -> Result<List<Group>, AllocError>
+    ensures len { IfOk result (λ gs. length gs ≡ min most (length groups.old)) }
+    ensures front { IfOk result (IsFrontOf texts.now (map whole groups.old)) }
 {
-    let (front, _, _) = groups.select_nth_unstable_by(
-        top,
-        |a, b| compare_groups(texts, keys, b, a),
-    );
-    front.sort_unstable_by(|a, b| compare_groups(texts, keys, b, a));
-    let first = Vec::from_slice(alloc, front)?;
+    if most >= groups.len() {
+        let all = all_in_order(alloc, texts, groups)?;
+        return Ok(all);
+    }
+    let (front, _, _) = groups.select_nth_unstable_by(most, |a, b| compare_groups(texts, b, a));
+    let first = all_in_order(alloc, texts, front)?;
     Ok(first)
 }

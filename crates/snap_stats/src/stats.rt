@@ -1,118 +1,89 @@
-ghost use Rattle.std.specs.Prelude.{◌≡◌, ◌<◌, ◌^◌, length, map, All, IfOk};
+//! The first statistics of a snapshot.
+ghost use Rattle.std.specs.Prelude.{◌≡◌, length, map, min, take, IfOk, IfSome, IfNone};
+ghost use Rattle.std.specs.List.{AllByRecursion};
 ghost use Rattle.mem_base.specs.declared.trace.KeyKind.TheVariants as kinds;
-ghost use Rattle.trace_table.specs.declared.snapshot.Row.{Row};
+ghost use Rattle.frame_stack.specs.Callers.{AreAmong};
 ghost use Rattle.snapshot_model.specs.Occurrences.{occurrences};
-ghost use Rattle.snapshot_model.specs.Stats.{IsStats};
-ghost use Rattle.snap_stats.specs.Plain.{plain_group, plain_rows, IsHeld};
-ghost use Rattle.snap_stats.specs.Numbers.{kind_of, numbered_of, plain_occurrence, whole_group, IsKeyed};
+ghost use Rattle.snapshot_model.specs.Stats.{plain_group, stats_of};
+ghost use Rattle.trace_table.specs.Plain.{plain_rows, IsHeld};
+ghost use Rattle.snap_stats.specs.Answers.{kind_of};
+ghost use Rattle.snap_stats.specs.Groups.{whole, IsFrontOf};
 
-use crate::numbers::{count_frames, count_whole};
-use crate::order::{frames_of, put_in_order};
-use crate::sums::{NumberedGroup, add_rows, present};
+use crate::groups::{Summed, frames_summed, tracebacks_summed};
+use crate::order::first_in_order;
+use crate::sums::{sums_by_frame, sums_by_traceback};
 use frame_stack::Tracebacks;
 use mem_base::{Group, KeyKind, List, Texts};
 use std::alloc::{AllocError, Global};
-use trace_table::{Row, Snapshot};
+use trace_table::Snapshot;
 
-// The groups with the frames of their keys.
-fn whole_groups(
-    alloc: Global,
-    keys: &Tracebacks,
-    groups: &[NumberedGroup],
-) -> Result<List<Group>, AllocError>
-    ensures { IfOk result (λ gs. gs ≡ map (whole_group keys.now) groups.now) }
-{
-    let mut whole = List::new(alloc);
-    for group in groups {
-        let key = List::from_slice(alloc, frames_of(keys, group.number))?;
-        whole.push(Group {
-            key,
-            size: group.size,
-            count: group.count,
-        })?;
-    }
-    Ok(whole)
+/// By what rows are grouped, and whether each counts for all its kept frames.
+#[derive(Clone, Copy, Debug, PartialEq, Eq)]
+pub struct Grouping {
+    pub key: KeyKind,
+    pub cumulative: bool,
 }
 
-// The statistics of rows whose tracebacks count for these numbers of keys.
-fn statistics_by(
-    alloc: Global,
-    rows: &[Row],
-    texts: &Texts,
-    keys: &Tracebacks,
-    counted: &[List<u32>],
-) -> Result<List<Group>, AllocError>
-    requires few { length rows.now < 2 ^ 32 }
-    requires traces { All (λ (r : Row). r.trace.0 < length counted.now) rows.now }
-    requires keyed { IsKeyed texts.now keys.now counted.now }
-    ensures { IfOk result (λ gs. IsStats
-        (map (plain_occurrence texts.now keys.now) (numbered_of counted.now rows.now))
-        (map (plain_group texts.now) gs)) }
-{
-    let sums = add_rows(alloc, rows, counted, keys.len())?;
-    let mut groups = present(alloc, &sums)?;
-    put_in_order(texts, keys, &mut groups);
-    let whole = whole_groups(alloc, keys, &groups)?;
-    Ok(whole)
-}
-
-// The statistics by frames, with or without their lines.
-fn statistics_by_frame(
-    alloc: Global,
-    s: &Snapshot,
-    by_line: bool,
-    cumulative: bool,
-    texts: &Texts,
-    table: &Tracebacks,
-) -> Result<List<Group>, AllocError>
-    requires { IsHeld texts.now table.now s.now.rows }
-    ensures { IfOk result (λ gs. IsStats
-        (occurrences (kind_of by_line) cumulative (plain_rows texts.now table.now s.now.rows))
-        (map (plain_group texts.now) gs)) }
-{
-    let _texts = texts.len();
-    let (keys, counted) = count_frames(alloc, by_line, cumulative, table)?;
-    let _keys = keys.len();
-    let groups = statistics_by(alloc, s.rows.as_slice(), texts, &keys, &counted)?;
-    Ok(groups)
-}
-
-// The statistics by whole tracebacks.
-fn statistics_by_traceback(
-    alloc: Global,
-    s: &Snapshot,
-    cumulative: bool,
-    texts: &Texts,
-    table: &Tracebacks,
-) -> Result<List<Group>, AllocError>
-    requires { IsHeld texts.now table.now s.now.rows }
-    ensures { IfOk result (λ gs. IsStats
-        (occurrences kinds.Traceback cumulative (plain_rows texts.now table.now s.now.rows))
-        (map (plain_group texts.now) gs)) }
-{
-    let _texts = texts.len();
-    let counted = count_whole(alloc, table.len())?;
-    let groups = statistics_by(alloc, s.rows.as_slice(), texts, table, &counted)?;
-    Ok(groups)
-}
-
-/// The statistics of a snapshot, from the greatest group to the least. The error is that there was no memory.
-pub fn statistics(
-    alloc: Global,
-    s: &Snapshot,
-    key: KeyKind,
-    cumulative: bool,
-    texts: &Texts,
-    table: &Tracebacks,
-) -> Result<List<Group>, AllocError>
-    requires { IsHeld texts.now table.now s.now.rows }
-    ensures { IfOk result (λ gs. IsStats
-        (occurrences key cumulative (plain_rows texts.now table.now s.now.rows))
-        (map (plain_group texts.now) gs)) }
+// Where single frames are keys, whether their lines are part of them.
+fn has_lines(key: KeyKind) -> Option<bool>
+    ensures some { IfSome result (λ by_line. kind_of by_line ≡ key) }
+    ensures none { IfNone result (key ≡ kinds.Traceback) }
 {
     match key {
-        KeyKind::Filename => statistics_by_frame(alloc, s, false, cumulative, texts, table),
-        KeyKind::Lineno => statistics_by_frame(alloc, s, true, cumulative, texts, table),
-        KeyKind::Traceback => statistics_by_traceback(alloc, s, cumulative, texts, table),
+        KeyKind::Filename => Some(false),
+        KeyKind::Lineno => Some(true),
+        KeyKind::Traceback => None,
+    }
+}
+
+// How many groups there are, and the first.
+fn count_and_first(
+    alloc: Global,
+    texts: &Texts,
+    groups: &mut [Summed<'_>],
+    most: u32,
+) -> Result<(u64, List<Group>), AllocError>
+    ensures count { IfOk result (λ r. r.0 ≡ length (map whole groups.old)) }
+    ensures len { IfOk result (λ r. length r.1 ≡ min most (length (map whole groups.old))) }
+    ensures front { IfOk result (λ r. IsFrontOf texts.now (map whole groups.old) r.1) }
+{
+    let count = groups.len() as u64;
+    let first = first_in_order(alloc, texts, groups, most as usize)?;
+    Ok((count, first))
+}
+
+/// How many statistics a snapshot has, and the first of them: so many, or all. The error is that there was no
+/// memory.
+pub fn first_statistics(
+    alloc: Global,
+    s: &Snapshot,
+    by: Grouping,
+    most: u32,
+    texts: &Texts,
+    table: &Tracebacks,
+) -> Result<(u64, List<Group>), AllocError>
+    requires { IsHeld texts.now table.now s.now.rows }
+    ensures count { IfOk result (λ r. r.0
+        ≡ length (stats_of (occurrences by.key by.cumulative (plain_rows texts.now table.now s.now.rows)))) }
+    ensures first { IfOk result (λ r. map (plain_group texts.now) r.1
+        ≡ take most (stats_of (occurrences by.key by.cumulative (plain_rows texts.now table.now s.now.rows)))) }
+    ensures known { IfOk result (λ r. AllByRecursion (λ g. AreAmong (length texts.now) g.key) r.1) }
+{
+    // The lengths of the tables say that no text and no traceback stands twice.
+    let _texts = texts.len();
+    let _tracebacks = table.len();
+    let sums = sums_by_traceback(alloc, s.rows.as_slice())?;
+    match has_lines(by.key) {
+        Some(by_line) => {
+            let by_frame = sums_by_frame(alloc, &sums, by_line, by.cumulative, table)?;
+            let mut groups = frames_summed(alloc, &by_frame)?;
+            let answer = count_and_first(alloc, texts, &mut groups, most)?;
+            Ok(answer)
+        },
+        None => {
+            let mut groups = tracebacks_summed(alloc, &sums, table)?;
+            let answer = count_and_first(alloc, texts, &mut groups, most)?;
+            Ok(answer)
+        },
     }
 }

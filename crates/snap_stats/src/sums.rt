@@ -1,78 +1,138 @@
-//! Sums by the numbers of keys.
-ghost use Rattle.std.specs.Prelude.{◌≡◌, ℕ, ◌+◌, ◌<◌, ◌≤◌, ◌^◌, ◌++◌, length, All, IfOk, List, slice_index_or, []};
-ghost use Rattle.trace_table.specs.declared.snapshot.Row.{Row};
-ghost use Rattle.snap_stats.specs.Numbers.{AddsUp, Fits, Numbered, groups_from, each_of, numbered_of};
+//! Sums by key.
+//!
+//! A table has each key once, with the sum of the sizes that were added to it and how many they were. Sizes come
+//! to the same whatever the order in which they are added, so the rows of one traceback may be added up before
+//! anything is asked of its frames:
+//!
+//! ```text
+//! rows           by traceback       by frame, cumulative
+//! 100, tb 0      tb 0   130, 2      a:3   130, 2
+//!  20, tb 2      tb 2    20, 1      b:7   130, 2
+//!  30, tb 0                         a:4    20, 1
+//! ```
+ghost use Rattle.std.specs.Prelude.{◌≡◌, ◌+◌, ◌<◌, ◌^◌, ◌++◌, ◌∷◌, [], length, List, IfOk, OnOk};
+ghost use Rattle.std.specs.List.{AllByRecursion};
+ghost use Rattle.mem_base.specs.declared.reply.Frame.{Frame};
+ghost use Rattle.snapshot_model.specs.Rules.{frames_seen};
+ghost use Rattle.snap_stats.specs.Sums.{counts, once, frame_key, frame_parts, parts_at, parts_of, same_frame, same_id};
+ghost use Rattle.snap_stats.specs.Sums.{AddsUp, AreSound, IsSound};
 
-use mem_base::List;
+use frame_stack::{TbId, Tracebacks};
+use indexmap::IndexMap;
+use mem_base::Frame;
 use std::alloc::{AllocError, Global};
+use std::hash::Hash;
 use trace_table::Row;
 
-/// The sum of sizes, and how many there are.
+/// The sum of sizes in bytes, and how many there are.
 #[derive(Clone, Copy, Debug, PartialEq, Eq)]
 pub struct Sum {
     pub size: u128,
     pub count: u64,
 }
 
-/// A key's number, the sum of its sizes, and how many there are.
-#[derive(Clone, Copy, Debug, PartialEq, Eq)]
-pub struct NumberedGroup {
-    pub number: u32,
-    pub size: u128,
-    pub count: u64,
-}
-
-// Adds a size to the sum of each number.
-fn add_each(sums: &mut [Sum], numbers: &[u32], size: u64)
-    requires known { All (λ n. n < length sums.old) numbers.now }
-    requires room { (done : ℕ) × Fits done sums.old × (done + length numbers.now < 2 ^ 62) }
-    ensures adds { (before : List Numbered) → AddsUp before sums.old → AddsUp (before ++ each_of size numbers.now) sums.new }
-    ensures fits { (done : ℕ) → Fits done sums.old → Fits (done + length numbers.now) sums.new }
+// Adds a sum to that of the key.
+fn add<K: Copy + Eq + Hash>(
+    sums: &mut IndexMap<K, Sum>,
+    key: K,
+    more: Sum,
+) -> Result<(), AllocError>
+    requires more { IsSound more }
+    requires sound { AreSound sums.old.entries }
+    requires room { counts once sums.old.entries + more.count < 2 ^ 64 }
+    ensures { OnOk result ((before : List (K × Sum)) → AddsUp K.eq before sums.old.entries
+        → AddsUp K.eq (before ++ (key, more) ∷ []) sums.new.entries) }
 {
-    for number in numbers {
-        let sum = &mut sums[*number as usize];
-        sum.size += u128::from(size);
-        sum.count += 1;
+    match sums.get_mut(&key) {
+        Some(sum) => {
+            sum.size += more.size;
+            sum.count += more.count;
+        },
+        None => {
+            sums.insert(key, more)?;
+        },
     }
+    Ok(())
 }
 
-/// Adds the rows' sizes up, each for the numbers that its traceback counts for. There are so many numbers.
-pub fn add_rows(
-    alloc: Global,
-    rows: &[Row],
-    counted: &[List<u32>],
-    many: usize,
-) -> Result<Vec<Sum>, AllocError>
-    requires few { length rows.now < 2 ^ 32 }
-    requires traces { All (λ (r : Row). r.trace.0 < length counted.now) rows.now }
-    requires known { (t : ℕ) → All (λ n. n < many) (slice_index_or counted.now t []) }
-    requires short { (t : ℕ) → length (slice_index_or counted.now t []) ≤ 2 ^ 16 }
-    ensures many { IfOk result (λ v. length v.items ≡ many) }
-    ensures sums { IfOk result (λ v. AddsUp (numbered_of counted.now rows.now) v.items) }
+/// The sum of each traceback that a row has.
+pub fn sums_by_traceback(alloc: Global, rows: &[Row]) -> Result<IndexMap<TbId, Sum>, AllocError>
+    requires { length rows.now < 2 ^ 32 }
+    ensures { IfOk result (λ m. AddsUp same_id (parts_of rows.now) m.entries) }
 {
-    let nothing = Sum { size: 0, count: 0 };
-    let mut sums = vec![in alloc; nothing; many]?;
+    let mut sums = IndexMap::new(alloc);
     for row in rows {
-        let numbers = counted[row.trace.0 as usize].as_slice();
-        add_each(&mut sums, numbers, row.size);
+        let one = Sum {
+            size: u128::from(row.size),
+            count: 1,
+        };
+        add(&mut sums, row.trace, one)?;
     }
     Ok(sums)
 }
 
-/// The groups of the numbers that occur, by number.
-pub fn present(alloc: Global, sums: &[Sum]) -> Result<Vec<NumberedGroup>, AllocError>
-    requires { length sums.now < 2 ^ 32 }
-    ensures { IfOk result (λ v. v.items ≡ groups_from 0 sums.now) }
+// The frame as a key: with its line, or with line 0.
+fn frame_key(by_line: bool, frame: Frame) -> Frame
+    ensures { result ≡ frame_key by_line frame }
 {
-    let mut groups = Vec::new(alloc);
-    for (number, sum) in sums.iter().enumerate() {
-        if sum.count > 0 {
-            groups.push(NumberedGroup {
-                number: number as u32,
-                size: sum.size,
-                count: sum.count,
-            })?;
+    if by_line {
+        frame
+    } else {
+        Frame {
+            file: frame.file,
+            line: 0,
         }
     }
-    Ok(groups)
+}
+
+// The frames that count: all, or the most recent one.
+fn frames_seen(cumulative: bool, frames: &[Frame]) -> &[Frame]
+    ensures { result.now ≡ frames_seen cumulative frames.now }
+{
+    if cumulative {
+        frames
+    } else {
+        &frames[frames.len().saturating_sub(1)..]
+    }
+}
+
+// Adds a sum to that of each frame.
+fn add_frames(
+    sums: &mut IndexMap<Frame, Sum>,
+    by_line: bool,
+    frames: &[Frame],
+    more: Sum,
+) -> Result<(), AllocError>
+    requires more { IsSound more }
+    requires sound { AreSound sums.old.entries }
+    requires room { counts once (sums.old.entries ++ parts_at by_line more frames.now) < 2 ^ 64 }
+    ensures { OnOk result ((before : List (Frame × Sum)) → AddsUp same_frame before sums.old.entries
+        → AddsUp same_frame (before ++ parts_at by_line more frames.now) sums.new.entries) }
+{
+    for frame in frames {
+        add(sums, frame_key(by_line, *frame), more)?;
+    }
+    Ok(())
+}
+
+/// The sum of each frame that counts for one of the tracebacks, by its line or by its file alone.
+pub fn sums_by_frame(
+    alloc: Global,
+    sums: &IndexMap<TbId, Sum>,
+    by_line: bool,
+    cumulative: bool,
+    table: &Tracebacks,
+) -> Result<IndexMap<Frame, Sum>, AllocError>
+    requires sound { AreSound sums.now.entries }
+    requires known { AllByRecursion (λ s. s.0.0 < length table.now) sums.now.entries }
+    requires room { counts once (frame_parts by_line cumulative table.now sums.now.entries) < 2 ^ 64 }
+    ensures { IfOk result (λ m. AddsUp same_frame
+        (frame_parts by_line cumulative table.now sums.now.entries) m.entries) }
+{
+    let mut by_frame = IndexMap::new(alloc);
+    for (id, sum) in sums {
+        let frames = frames_seen(cumulative, table.frames(*id));
+        add_frames(&mut by_frame, by_line, frames, *sum)?;
+    }
+    Ok(by_frame)
 }

@@ -1,6 +1,6 @@
 ghost use Rattle.std.specs.Prelude.{◌≡◌, ◌+◌, ◌<◌, ◌≤◌, length, IfOk, OnOk};
 ghost use Rattle.frame_stack.specs.Callers.{AreAmong};
-ghost use Rattle.snap_stats.specs.Plain.{IsHeld};
+ghost use Rattle.trace_table.specs.Plain.{IsHeld};
 
 use super::*;
 use frame_stack::Tracebacks;
@@ -66,7 +66,7 @@ fn push(
     Ok(())
 }
 
-// Four rows, of which the last two differ in their key alone.
+// Five rows: the first two have one traceback, and the last two tie in size and count.
 fn sample(alloc: Global, texts: &Texts) -> Result<(Snapshot, Tracebacks), AllocError>
     requires { 3 ≤ length texts.now }
     ensures { IfOk result (λ r. IsHeld texts.now r.1 r.0.rows) }
@@ -77,75 +77,75 @@ fn sample(alloc: Global, texts: &Texts) -> Result<(Snapshot, Tracebacks), AllocE
     };
     let mut table = Tracebacks::new(alloc);
     push(&mut s, &mut table, texts, 100, &[a(3), b(7)], 3)?;
+    push(&mut s, &mut table, texts, 10, &[a(3), b(7)], 2)?;
     push(&mut s, &mut table, texts, 30, &[b(7)], 1)?;
     push(&mut s, &mut table, texts, 20, &[a(4)], 1)?;
     push(&mut s, &mut table, texts, 20, &[a(9)], 1)?;
     Ok((s, table))
 }
 
-// Groups of these keys, sizes and counts.
-fn groups(alloc: Global, all: &[(&[Frame], u128, u64)]) -> Result<List<Group>, AllocError> {
+// Groups of these keys, sizes and counts, of so many.
+fn groups(
+    alloc: Global,
+    count: u64,
+    first: &[(&[Frame], u128, u64)],
+) -> Result<(u64, List<Group>), AllocError> {
     let mut list = List::new(alloc);
-    for (key, size, count) in all {
+    for (key, size, count) in first {
         list.push(Group {
             key: List::from_slice(alloc, key)?,
             size: *size,
             count: *count,
         })?;
     }
-    Ok(list)
+    Ok((count, list))
+}
+
+// The first groups of the sample.
+fn first(
+    alloc: Global,
+    key: KeyKind,
+    cumulative: bool,
+    most: u32,
+) -> Result<(u64, List<Group>), AllocError> {
+    let texts = files(alloc)?;
+    let (s, table) = sample(alloc, &texts)?;
+    first_statistics(
+        alloc,
+        &s,
+        Grouping { key, cumulative },
+        most,
+        &texts,
+        &table,
+    )
 }
 
 #[test]
 fn groups_fall_by_size_count_and_key(rt: HostRuntime) -> Result<(), Fail> {
     let alloc = rt.alloc();
-    let texts = files(alloc)?;
-    let (s, table) = sample(alloc, &texts)?;
-    let by_line = statistics(alloc, &s, KeyKind::Lineno, false, &texts, &table)?;
-    assert!(rt;
-        by_line
-            == groups(
-                alloc,
-                &[(&[b(7)], 130, 2), (&[a(9)], 20, 1), (&[a(4)], 20, 1)]
-            )?
-    );
-    let by_file = statistics(alloc, &s, KeyKind::Filename, false, &texts, &table)?;
-    assert!(rt; by_file == groups(alloc, &[(&[b(0)], 130, 2), (&[a(0)], 40, 2)])?);
-    let by_traceback = statistics(alloc, &s, KeyKind::Traceback, false, &texts, &table)?;
-    assert!(rt;
-        by_traceback
-            == groups(
-                alloc,
-                &[
-                    (&[a(3), b(7)], 100, 1),
-                    (&[b(7)], 30, 1),
-                    (&[a(9)], 20, 1),
-                    (&[a(4)], 20, 1),
-                ]
-            )?
-    );
+    let lines = first(alloc, KeyKind::Lineno, false, 2)?;
+    assert!(rt; lines == groups(alloc, 3, &[(&[b(7)], 140, 3), (&[a(9)], 20, 1)])?);
+    let files = first(alloc, KeyKind::Filename, false, 9)?;
+    assert!(rt; files == groups(alloc, 2, &[(&[b(0)], 140, 3), (&[a(0)], 40, 2)])?);
+    let tracebacks = first(alloc, KeyKind::Traceback, false, 1)?;
+    assert!(rt; tracebacks == groups(alloc, 4, &[(&[a(3), b(7)], 110, 2)])?);
     Ok(())
 }
 
 #[test]
 fn each_kept_frame_counts_where_statistics_are_cumulative(rt: HostRuntime) -> Result<(), Fail> {
     let alloc = rt.alloc();
-    let texts = files(alloc)?;
-    let (s, table) = sample(alloc, &texts)?;
-    let by_line = statistics(alloc, &s, KeyKind::Lineno, true, &texts, &table)?;
-    assert!(rt;
-        by_line
-            == groups(
-                alloc,
-                &[
-                    (&[b(7)], 130, 2),
-                    (&[a(3)], 100, 1),
-                    (&[a(9)], 20, 1),
-                    (&[a(4)], 20, 1),
-                ]
-            )?
-    );
-    let by_file = statistics(alloc, &s, KeyKind::Filename, true, &texts, &table)?;
-    assert!(rt; by_file == groups(alloc, &[(&[a(0)], 140, 3), (&[b(0)], 130, 2)])?);
+    let lines = first(alloc, KeyKind::Lineno, true, 2)?;
+    assert!(rt; lines == groups(alloc, 4, &[(&[b(7)], 140, 3), (&[a(3)], 110, 2)])?);
+    let files = first(alloc, KeyKind::Filename, true, 2)?;
+    assert!(rt; files == groups(alloc, 2, &[(&[a(0)], 150, 4), (&[b(0)], 140, 3)])?);
+    Ok(())
+}
+
+#[test]
+fn no_group_is_answered_where_none_is_wanted(rt: HostRuntime) -> Result<(), Fail> {
+    let alloc = rt.alloc();
+    let none = first(alloc, KeyKind::Traceback, false, 0)?;
+    assert!(rt; none == groups(alloc, 4, &[])?);
     Ok(())
 }

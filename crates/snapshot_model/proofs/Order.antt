@@ -31,7 +31,7 @@ then_both Less b h = absurd (cc)
 then_both Equal b h = (refl, h)
 then_both Greater b h = absurd (cc)
 
-same_nat : (x y : ℕ) → nat_cmp x y ≡ Equal → x ≡ y
+pub same_nat : (x y : ℕ) → nat_cmp x y ≡ Equal → x ≡ y
 same_nat x y h = subst (λ (o : Ordering). MatchOrdering o (x < y) (x ≡ y) (y < x)) h (ranked x y (nat_cmp x y) refl)
 
 module _ {X : Type 0} (R : X → X → Ordering) (same : (x y : X) → R x y ≡ Equal → x ≡ y) where

@@ -1,10 +1,11 @@
 -- A comparison of two snapshots: a change for each key of either, with what has changed.
-use Rattle.std.specs.Prelude.{◌≡◌, ℕ, suc, ◌+◌, ◌≤◌, ℤ, pos, negsuc, ◌-ℤ◌, List}
+use Rattle.std.specs.Prelude.{◌≡◌, ℕ, suc, ◌+◌, ◌≤◌, ℤ, pos, negsuc, ◌-ℤ◌, List, ◌++◌, map}
 use Rattle.std.specs.declared.cmp.Ordering.{Ordering}
 use Rattle.std.specs.Ordering.{ordering_then, nat_cmp}
 use Rattle.extents.specs.Sums.{tally, Has}
 use Rattle.snapshot_model.specs.Occurrences.{Key, Occurrence}
-use Rattle.snapshot_model.specs.Stats.{key_cmp, Falls, once_at, size_at}
+use Rattle.snapshot_model.specs.Order.{Falls, falling}
+use Rattle.snapshot_model.specs.Stats.{key_cmp, keys_in, once_at, size_at}
 
 -- a change: a key, its new sum and count, and new less old of both
 pub record Change : Type 0 where
@@ -40,3 +41,17 @@ pub record IsCompared (new old : List Occurrence) (changes : List Change) : Type
   pub falls : Falls change_cmp changes
   pub each : (c : Change) → Has c changes → IsChangeOf new old c
   pub all : (c : Change) → IsChangeOf new old c → Has c changes
+
+-- the change of a key
+abbrev pub change_at : List Occurrence → List Occurrence → Key → Change
+change_at new old k = record {
+  key = k;
+  size = tally (size_at k) new;
+  size_diff = pos (tally (size_at k) new) -ℤ pos (tally (size_at k) old);
+  count = tally (once_at k) new;
+  count_diff = pos (tally (once_at k) new) -ℤ pos (tally (once_at k) old);
+}
+
+-- the changes of all keys that occur in either, from the greatest to the least
+abbrev pub changes_of : List Occurrence → List Occurrence → List Change
+changes_of new old = falling change_cmp (map (change_at new old) (keys_in (new ++ old)))

@@ -1,3 +1,4 @@
+pub mod Order
 pub mod Snapshots
 pub mod Rules
 pub mod Occurrences

@@ -17,8 +17,15 @@
 //! of statistics. The definitions in `specs/` say this, and the functions here are the laws.
 #![tactic(auto)]
 
-ghost use Rattle.snapshot_model.specs.Laws.{RulesKeepSnapshots, NoRulesKeepAll};
-ghost use Rattle.snapshot_model.specs.Laws.{StatsAreOne, ComparisonsAreOne, FirstGroupsAreFirst};
+ghost use Rattle.snapshot_model.specs.Laws.{SnapshotsHoldAll, SnapshotsAreOne, RulesKeepSnapshots, NoRulesKeepAll};
+ghost use Rattle.snapshot_model.specs.Laws.{StatsAreTheirs, StatsAreOne, ChangesAreTheirs, ComparisonsAreOne};
+ghost use Rattle.snapshot_model.specs.Laws.{FirstGroupsAreFirst};
+
+/// A snapshot is the traces that are held, in order, and only that list is.
+pub fn snapshots_hold_all()
+    ensures all { SnapshotsHoldAll }
+    ensures one { SnapshotsAreOne }
+{}
 
 /// What rules leave of a snapshot is one again, and no rules leave all.
 pub fn rules_keep_snapshots()
@@ -26,14 +33,16 @@ pub fn rules_keep_snapshots()
     ensures all { NoRulesKeepAll }
 {}
 
-/// The occurrences determine the statistics.
+/// There is one list of statistics.
 pub fn stats_are_one()
-    ensures { StatsAreOne }
+    ensures theirs { StatsAreTheirs }
+    ensures one { StatsAreOne }
 {}
 
-/// The occurrences of two snapshots determine their comparison.
+/// There is one comparison.
 pub fn comparisons_are_one()
-    ensures { ComparisonsAreOne }
+    ensures theirs { ChangesAreTheirs }
+    ensures one { ComparisonsAreOne }
 {}
 
 /// Groups in order that are above all others are the first of the statistics.

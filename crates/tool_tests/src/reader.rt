@@ -58,6 +58,13 @@ unmark 1 18446744073709551615/ => Unmark(1, 18446744073709551615)
 unmark 4294967295 0/ => Unmark(4294967295, 0)
 where x/ => Origin(TextId(2))
 call x 1/malloc r a 0/where x/ => Origin(TextId(2))
+snapshot s/ => Snapshot(TextId(2))
+malloc r a 0/snapshot t/ => Snapshot(TextId(1))
+keep n s/ => Keep(TextId(2), TextId(3), List { items: [] })
+snapshot s/keep s s/ => Keep(TextId(2), TextId(2), List { items: [] })
+stats s filename plain 1/ => Stats(TextId(2), Filename, false, 1)
+stats s lineno cumulative 1000000/ => Stats(TextId(2), Lineno, true, 1000000)
+stats s traceback plain 10/ => Stats(TextId(2), Traceback, false, 10)
 malloc m x 007/ => line 3: BadNumber
 malloc m x 18446744073709551616/ => line 3: BadNumber
 malloc m x/ => line 3: BadWords
@@ -130,6 +137,21 @@ unmark 1 01/ => line 3: BadNumber
 where/ => line 3: BadWords
 where x y/ => line 3: BadWords
 where x!/ => line 3: BadName
+snapshot/ => line 3: BadWords
+snapshot s s/ => line 3: BadWords
+snapshot s!/ => line 3: BadName
+keep n/ => line 3: BadWords
+keep n  in/ => line 3: BadWords
+keep n! s! in/ => line 3: BadName
+keep n s! in/ => line 3: BadName
+stats s lineno plain/ => line 3: BadWords
+stats s! line all 0/ => line 3: BadName
+stats s line all 0/ => line 3: UnknownWord
+stats s lineno all 0/ => line 3: UnknownWord
+stats s traceback cumulative 01/ => line 3: BadRange
+stats s traceback plain 01/ => line 3: BadNumber
+stats s lineno plain 0/ => line 3: BadRange
+stats s lineno plain 1000001/ => line 3: BadRange
 reset/ => line 3: UnknownWord
 returned/ => line 3: UnknownWord
 Start 1/ => line 3: UnknownWord
@@ -181,7 +203,46 @@ call |x|256| 1/ => line 3: BadName
 call a 1/|line 2/|262143|return/ => line 262147: TooMany
 |where x/|1024| => read
 |where x/|1025| => line 1027: TooMany
-|heap/|1024|where x/ => line 1027: TooMany";
+|heap/|1024|where x/ => line 1027: TooMany
+|snapshot s/|1024| => read
+|snapshot s/|1025| => line 1027: TooMany
+|heap/|1024|keep n s/ => line 1027: TooMany
+|heap/|1024|stats s lineno plain 1/ => line 1027: TooMany
+keep n s| in-domain,0|16|/ => read
+keep n s| in-domain,0|17|/ => line 3: TooMany
+keep n s| in-domain,0|17| in/ => line 3: BadRule
+keep n s in,top,*,*,|x|255|/ => read
+keep n s in,top,*,*,|x|256|/ => line 3: BadRule";
+
+// Words in place of a rule, and what comes of each: the rule or its parts as they are printed, or the fault.
+const RULES: &str = "\
+in,top,*,*,a => File { inclusive: true, all_frames: false, line: None, domain: None, \
+    pattern: List { items: [97] } }
+ex,all,0,0,*,? => File { inclusive: false, all_frames: true, line: Some(0), domain: Some(0), \
+    pattern: List { items: [42, 44, 63] } }
+in,all,2147483647,4294967295,, => File { inclusive: true, all_frames: true, line: Some(2147483647), \
+    domain: Some(4294967295), pattern: List { items: [44] } }
+in-domain,0 => Domain { inclusive: true, domain: 0 }
+ex-domain,4294967295 => Domain { inclusive: false, domain: 4294967295 }
+in => BadRule
+,top,*,*,a => BadRule
+on,top,*,*,a => BadRule
+in,,*,*,a => BadRule
+in,most,*,*,a => BadRule
+in,top,,*,a => BadRule
+in,top,01,*,a => BadRule
+in,top,2147483648,*,a => BadRule
+in,top,**,*,a => BadRule
+in,top,*,4294967296,a => BadRule
+in,top,*,a => BadRule
+in,top,*,* => BadRule
+in,top,*,*, => BadRule
+in-domain => BadRule
+in-domain, => BadRule
+in-domain,* => BadRule
+in-domain,4294967296 => BadRule
+ex-domain,1,2 => BadRule
+ex-domain,00 => BadRule";
 
 const HEAD: &str = "pymtrace 1/track t/";
 
@@ -224,6 +285,29 @@ fn an_input_is_read_or_its_first_fault_told(rt: HostRuntime) -> Result<(), Fail>
             let found = answer(rt.alloc(), input.as_str())?;
             assert_eq!(rt; found.as_str(), wanted, "at {row:?}");
         }
+    }
+    Ok(())
+}
+
+// What is told of a line that keeps by one rule.
+fn told_of_rule(alloc: Global, told: &str) -> Result<String, AllocError> {
+    if told == "BadRule" {
+        return format!(in alloc; "line 3: {told}");
+    }
+    format!(in alloc; "Keep(TextId(2), TextId(3), List {{ items: [{told}] }})")
+}
+
+#[test]
+fn a_rule_is_read_or_is_no_rule(rt: HostRuntime) -> Result<(), Fail> {
+    for row in RULES.lines() {
+        let (rule, told) = row.split_once(" => ").unwrap_or((row, ""));
+        let mut input = String::new(rt.alloc());
+        push_lines(&mut input, HEAD)?;
+        let line = format!(in rt.alloc(); "keep n s {rule}\n")?;
+        input.push_str(line.as_str())?;
+        let found = answer(rt.alloc(), input.as_str())?;
+        let wanted = told_of_rule(rt.alloc(), told)?;
+        assert_eq!(rt; found.as_str(), wanted.as_str(), "at {row:?}");
     }
     Ok(())
 }
@@ -279,6 +363,41 @@ fn a_65th_track_is_too_many_unless_its_name_is_taken(rt: HostRuntime) -> Result<
         input.push_str(line)?;
         let found = answer(rt.alloc(), input.as_str())?;
         assert_eq!(rt; found.as_str(), wanted);
+    }
+    Ok(())
+}
+
+// The header, a track, and snapshots of 16 different names.
+fn snapshots(alloc: Global) -> Result<String, AllocError> {
+    let mut input = String::from_str(alloc, "pymtrace 1\ntrack t\n")?;
+    for at in 0..16 {
+        let line = format!(in alloc; "snapshot s{at}\n")?;
+        input.push_str(line.as_str())?;
+    }
+    Ok(input)
+}
+
+#[test]
+fn a_17th_name_of_a_snapshot_is_too_many_where_it_is_written(rt: HostRuntime) -> Result<(), Fail> {
+    for (line, wanted) in [
+        ("snapshot s15\n", "Snapshot(TextId(17))"),
+        ("snapshot s16\n", "line 19: TooMany"),
+        (
+            "keep s0 s16\n",
+            "Keep(TextId(2), TextId(18), List { items: [] })",
+        ),
+        ("keep s16 s0\n", "line 19: TooMany"),
+        (
+            "stats s16 lineno plain 1\n",
+            "Stats(TextId(18), Lineno, false, 1)",
+        ),
+        ("track u\nsnapshot s0\n", "Snapshot(TextId(2))"),
+        ("track u\nsnapshot u\n", "line 20: TooMany"),
+    ] {
+        let mut input = snapshots(rt.alloc())?;
+        input.push_str(line)?;
+        let found = answer(rt.alloc(), input.as_str())?;
+        assert_eq!(rt; found.as_str(), wanted, "at {line:?}");
     }
     Ok(())
 }

@@ -9,21 +9,24 @@ use Rattle.mem_base.specs.Name.{Name}
 use Rattle.mem_base.specs.declared.texts.TextId.{TextId}
 use Rattle.mem_base.specs.declared.trace.Op.{Op}
 use Rattle.mem_base.specs.declared.trace.Op.TheVariants as code
-use Rattle.mem_base.specs.declared.limits.TheConstants.{MAX_FRAME_LIMIT, MAX_LINE, MAX_REACH, MAX_REFUSAL}
+use Rattle.mem_base.specs.declared.limits.TheConstants.{MAX_FRAME_LIMIT, MAX_LINE, MAX_LINES, MAX_REACH}
+use Rattle.mem_base.specs.declared.limits.TheConstants.{MAX_REFUSAL}
 use Rattle.trace_model.specs.Operands.{◌>>=◌, is_between, is_file, is_name, is_forged, max_domain, hex_word}
 use Rattle.trace_model.specs.Operands.{number_at, offset_at}
 use Rattle.trace_model.specs.Operands.{count_at, refusal_at, line_number_at, limit_at, domain_at, name_at}
-use Rattle.trace_model.specs.Operands.{file_at, letter_at}
+use Rattle.trace_model.specs.Operands.{file_at, letter_at, key_at, mode_at, most_at}
 use Rattle.trace_model.specs.Operands.{side_at, hex_from, hex_at}
 use Rattle.trace_model.specs.Plain.{Action, acquire, release, malloc, calloc, realloc, free, poke, peek}
 use Rattle.trace_model.specs.Plain.{enter, go_to, leave}
 use Rattle.trace_model.specs.Plain.{start_tracing, stop_tracing, clear_traces, reset_peak, traced_memory}
-use Rattle.trace_model.specs.Plain.{mark, unmark, origin}
+use Rattle.trace_model.specs.Plain.{mark, unmark, origin, snapshot, keep, stats}
 use Rattle.trace_model.specs.Plain.{heap, refuse, other, keyword_text, action_of, keyword_among, keyword_of}
 use Rattle.trace_model.specs.Plain.{operands_of, text_at}
 use Rattle.trace_model.specs.Plain.{Fits, honest_poke, malloc_at, calloc_at, realloc_at, free_at, poke_at}
 use Rattle.trace_model.specs.Plain.{peek_at, enter_at}
-use Rattle.trace_model.specs.Plain.{go_to_at, start_tracing_at, mark_at, unmark_at, origin_at, refuse_at, action_at}
+use Rattle.trace_model.specs.Plain.{go_to_at, start_tracing_at, mark_at, unmark_at, origin_at, snapshot_at}
+use Rattle.trace_model.specs.Plain.{keep_at, stats_at, refuse_at, action_at}
+use Rattle.trace_model.specs.Rules.{rules_at}
 use Rattle.trace_model.specs.Known.{IsKnown, IsKnownOp}
 use Rattle.trace_model.specs.Spelling.{words_after, line_of}
 use Rattle.trace_model.specs.Reading.{head_at}
@@ -34,9 +37,11 @@ use Rattle.trace_model.specs.declared.cause.TraceCause.TheVariants.{BadRange, Ba
 use Rattle.trace_model.proofs.OperandLaws.{both, bind_ok, test_holds, test_fails, ok_is, one_of, number_takes}
 use Rattle.trace_model.proofs.OperandLaws.{number_again, ranged_takes, ranged_again, offset_takes}
 use Rattle.trace_model.proofs.OperandLaws.{offset_again, name_takes, file_takes, letter_takes, letter_again}
-use Rattle.trace_model.proofs.OperandLaws.{side_takes, side_again, hex_takes, hex_back}
+use Rattle.trace_model.proofs.OperandLaws.{side_takes, side_again, key_takes, key_again, mode_takes, mode_again}
+use Rattle.trace_model.proofs.OperandLaws.{hex_takes, hex_back}
+use Rattle.trace_model.proofs.RuleLaws.{rules_take, rules_again, rules_are_words}
 use Rattle.trace_model.proofs.WordLaws.{is_word, name_word, file_word, number_word, offset_word, hex_is_word}
-use Rattle.trace_model.proofs.WordLaws.{letter_is_word, side_is_word, words_plain}
+use Rattle.trace_model.proofs.WordLaws.{letter_is_word, side_is_word, key_is_word, mode_is_word, words_plain}
 
 -- ---- keywords
 
@@ -65,6 +70,9 @@ keyword_again keys.Traced = (refl, refl)
 keyword_again keys.Mark = (refl, refl)
 keyword_again keys.Unmark = (refl, refl)
 keyword_again keys.Where = (refl, refl)
+keyword_again keys.Snapshot = (refl, refl)
+keyword_again keys.Keep = (refl, refl)
+keyword_again keys.Stats = (refl, refl)
 keyword_again keys.Heap = (refl, refl)
 keyword_again keys.Refuse = (refl, refl)
 
@@ -200,6 +208,38 @@ origin_takes name a e =
     let u = bind_ok (name_at name) (λ u. Ok (origin name)) a e in
     subst (Spells keys.Where (name ∷ [])) (ok_is (origin name) a u.2) (refl, refl, name_takes name u.0 u.1)
 
+snapshot_takes : (name : List ℕ) (a : Action) → snapshot_at name ≡ Ok a → Spells keys.Snapshot (name ∷ []) a
+unfolding snapshot_at
+snapshot_takes name a e =
+    let u = bind_ok (name_at name) (λ u. Ok (snapshot name)) a e in
+    subst (Spells keys.Snapshot (name ∷ [])) (ok_is (snapshot name) a u.2) (refl, refl, name_takes name u.0 u.1)
+
+keep_takes : (new old : List ℕ) (rules : List (List ℕ)) (a : Action) → keep_at new old rules ≡ Ok a
+    → Spells keys.Keep (new ∷ old ∷ rules) a
+unfolding keep_at
+keep_takes new old rules a e =
+    let u = bind_ok (name_at new) (λ u. name_at old >>= λ v. rules_at rules >>= λ rs. Ok (keep new old rs)) a e in
+    let v = bind_ok (name_at old) (λ v. rules_at rules >>= λ rs. Ok (keep new old rs)) a u.2 in
+    let rs = bind_ok (rules_at rules) (λ rs. Ok (keep new old rs)) a v.2 in
+    let rt = rules_take rules rs.0 rs.1 in
+    subst (Spells keys.Keep (new ∷ old ∷ rules)) (ok_is (keep new old rs.0) a rs.2)
+    (refl, (λ i. new ∷ old ∷ sym rt.0 i), (name_takes new u.0 u.1, name_takes old v.0 v.1, rt.1))
+
+stats_takes : (name key mode most : List ℕ) (a : Action) → stats_at name key mode most ≡ Ok a
+    → Spells keys.Stats (name ∷ key ∷ mode ∷ most ∷ []) a
+unfolding stats_at
+stats_takes name key mode most a e =
+    let u = bind_ok (name_at name) (λ u. key_at key >>= λ k. mode_at k mode >>= λ c. most_at most >>= λ n. Ok (stats name k c n))
+    a e in
+    let k = bind_ok (key_at key) (λ k. mode_at k mode >>= λ c. most_at most >>= λ n. Ok (stats name k c n)) a u.2 in
+    let c = bind_ok (mode_at k.0 mode) (λ c. most_at most >>= λ n. Ok (stats name k.0 c n)) a k.2 in
+    let n = bind_ok (most_at most) (λ n. Ok (stats name k.0 c.0 n)) a c.2 in
+    let kt = key_takes key k.0 k.1 in
+    let ct = mode_takes k.0 mode c.0 c.1 in
+    let nt = ranged_takes 1 MAX_LINES most n.0 n.1 in
+    subst (Spells keys.Stats (name ∷ key ∷ mode ∷ most ∷ [])) (ok_is (stats name k.0 c.0 n.0) a n.2)
+    (refl, (λ i. name ∷ sym kt i ∷ sym ct.0 i ∷ sym nt.0 i ∷ []), (name_takes name u.0 u.1, ct.1, nt.1, nt.2))
+
 refuse_takes : (side number : List ℕ) (a : Action) → refuse_at side number ≡ Ok a → Spells keys.Refuse (side ∷ number ∷ []) a
 unfolding refuse_at
 refuse_takes side number a e =
@@ -277,6 +317,18 @@ action_takes keys.Unmark (domain ∷ number ∷ []) a e = unmark_takes domain nu
 action_takes keys.Where [] a e = absurd cc
 action_takes keys.Where (w ∷ x ∷ ws) a e = absurd cc
 action_takes keys.Where (name ∷ []) a e = origin_takes name a e
+action_takes keys.Snapshot [] a e = absurd cc
+action_takes keys.Snapshot (w ∷ x ∷ ws) a e = absurd cc
+action_takes keys.Snapshot (name ∷ []) a e = snapshot_takes name a e
+action_takes keys.Keep [] a e = absurd cc
+action_takes keys.Keep (w ∷ []) a e = absurd cc
+action_takes keys.Keep (new ∷ old ∷ rules) a e = keep_takes new old rules a e
+action_takes keys.Stats [] a e = absurd cc
+action_takes keys.Stats (w ∷ []) a e = absurd cc
+action_takes keys.Stats (w ∷ x ∷ []) a e = absurd cc
+action_takes keys.Stats (w ∷ x ∷ y ∷ []) a e = absurd cc
+action_takes keys.Stats (w ∷ x ∷ y ∷ z ∷ v ∷ ws) a e = absurd cc
+action_takes keys.Stats (name ∷ key ∷ mode ∷ most ∷ []) a e = stats_takes name key mode most a e
 action_takes keys.Heap [] a e = subst (Spells keys.Heap []) (ok_is heap a e) (refl, refl, tt)
 action_takes keys.Heap (w ∷ ws) a e = absurd cc
 action_takes keys.Refuse [] a e = absurd cc
@@ -304,7 +356,8 @@ pub record Spelt (a : Action) : Type 0 where
   pub words : AllByRecursion (λ w. is_word w ≡ true) (operands_of a)
 
 pub action_again : (a : Action) → Fits a → Spelt a
-unfolding action_at malloc_at calloc_at realloc_at free_at poke_at peek_at enter_at go_to_at start_tracing_at mark_at unmark_at origin_at refuse_at
+unfolding action_at malloc_at calloc_at realloc_at free_at poke_at peek_at enter_at go_to_at start_tracing_at mark_at unmark_at
+    origin_at snapshot_at keep_at stats_at refuse_at
 action_again acquire fits = record { keyword = keys.Acquire; is = refl; read = refl; words = tt }
 action_again release fits = record { keyword = keys.Release; is = refl; read = refl; words = tt }
 action_again (malloc letter name size) fits = record {
@@ -384,6 +437,30 @@ action_again (origin name) fits = record {
   read = rw (name_again name fits) refl;
   words = (name_word name fits, tt);
 }
+action_again (snapshot name) fits = record {
+  keyword = keys.Snapshot;
+  is = refl;
+  read = rw (name_again name fits) refl;
+  words = (name_word name fits, tt);
+}
+action_again (keep new old rules) fits = record {
+  keyword = keys.Keep;
+  is = refl;
+  read = rw (name_again new fits.0, name_again old fits.1, rules_again rules fits.2) refl;
+  words = (name_word new fits.0, (name_word old fits.1, rules_are_words rules fits.2));
+}
+action_again (stats name key cumulative most) fits = record {
+  keyword = keys.Stats;
+  is = refl;
+  read = rw (
+    name_again name fits.0,
+    key_again key,
+    mode_again key cumulative fits.1,
+    ranged_again 1 MAX_LINES most
+        (lit< tt) fits.2 fits.3,
+  ) refl;
+  words = (name_word name fits.0, (key_is_word key, (mode_is_word cumulative, (number_word most (omega (arith, fits.3)), tt))));
+}
 action_again heap fits = record { keyword = keys.Heap; is = refl; read = refl; words = tt }
 action_again (refuse side number) fits = record {
   keyword = keys.Refuse;
@@ -433,6 +510,11 @@ action_stays texts more code.Traced known = refl
 action_stays texts more (code.Mark domain number size) known = refl
 action_stays texts more (code.Unmark domain number) known = refl
 action_stays texts more (code.Origin name) known = ap origin (text_stays texts more name known)
+action_stays texts more (code.Snapshot name) known = ap snapshot (text_stays texts more name known)
+action_stays texts more (code.Keep new old rules) known =
+    λ i. keep (text_stays texts more new known.0 i) (text_stays texts more old known.1 i) rules
+action_stays texts more (code.Stats name key cumulative lines) known =
+    ap (λ (n : Name). stats n key cumulative lines) (text_stays texts more name known)
 action_stays texts more code.Heap known = refl
 action_stays texts more (code.Refuse side number) known = refl
 action_stays texts more op known = absurd known
@@ -457,6 +539,9 @@ op_stays texts more code.Traced known = tt
 op_stays texts more (code.Mark domain number size) known = known
 op_stays texts more (code.Unmark domain number) known = known
 op_stays texts more (code.Origin name) known = known_stays texts more name known
+op_stays texts more (code.Snapshot name) known = known_stays texts more name known
+op_stays texts more (code.Keep new old rules) known = (known_stays texts more new known.0, known_stays texts more old known.1)
+op_stays texts more (code.Stats name key cumulative lines) known = known_stays texts more name known
 op_stays texts more code.Heap known = tt
 op_stays texts more (code.Refuse side number) known = known
 op_stays texts more op known = absurd known

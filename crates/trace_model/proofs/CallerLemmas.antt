@@ -3,6 +3,7 @@
 pub use Rattle.trace_model.proofs.ActionLaws.{actions_stay, known_stays, ops_stay, text_stays}
 pub use Rattle.trace_model.proofs.LineSteps.{with_header, with_line}
 pub use Rattle.trace_model.proofs.OperandLaws.{both, test_fails, test_holds, ok_is}
+pub use Rattle.trace_model.proofs.SnapshotLaws.{snapshots_of_new, snapshots_with}
 pub use Rattle.trace_model.proofs.TableLaws.{table_with_track, table_with_action}
 pub use Rattle.trace_model.proofs.TraceLaws.{trace_takes, trace_again, read_back}
 pub use Rattle.trace_model.proofs.TrackLaws.{all_push, suc_not_zero, count_of_new, reports_of_new}

@@ -1,6 +1,7 @@
 pub mod CallerLemmas
 mod OperandLaws
 mod WordLaws
+mod RuleLaws
 mod ActionLaws
 mod LineLaws
 mod LineSteps
@@ -8,3 +9,4 @@ mod NameLaws
 mod TrackLaws
 mod TraceLaws
 mod TableLaws
+mod SnapshotLaws

@@ -12,17 +12,19 @@ use Rattle.std.proofs.lemmas.Fmt.{digits_decimal, digits_value-decimal, decimal-
 use Rattle.std.proofs.lemmas.Fmt.{decimal_nonempty, first_decimal, decimal_digit}
 use Rattle.std.proofs.lemmas.Slice.Eq.{bytes_eq-Decides}
 use Rattle.std.proofs.lemmas.Str.Parse.{IsNumeralModel, numerals_by_fold}
+use Rattle.mem_base.specs.declared.trace.KeyKind.{KeyKind}
+use Rattle.mem_base.specs.declared.trace.KeyKind.TheVariants.{Filename, Lineno, Traceback}
 use Rattle.mem_base.specs.declared.trace.Letter.{Letter}
 use Rattle.mem_base.specs.declared.trace.Letter.TheVariants.{Raw, Mem, Obj}
 use Rattle.mem_base.specs.declared.trace.Side.{Side}
 use Rattle.mem_base.specs.declared.trace.Side.TheVariants as sides
 use Rattle.mem_base.specs.Offset.{IsOffset}
 use Rattle.trace_model.specs.declared.cause.TraceCause.{TraceCause}
-use Rattle.trace_model.specs.declared.cause.TraceCause.TheVariants.{BadNumber, BadRange, BadName}
+use Rattle.trace_model.specs.declared.cause.TraceCause.TheVariants.{UnknownWord, BadNumber, BadRange, BadName}
 use Rattle.trace_model.specs.Operands.{◌>>=◌, is_between, is_file, is_name, letter_word, side_word, hex_word}
 use Rattle.trace_model.specs.Operands.{glyph, digits_from, number_at, forward_at, backward_at, offset_at}
 use Rattle.trace_model.specs.Operands.{number_in, name_at, file_at, letter_at, side_at, digit_of, with_byte}
-use Rattle.trace_model.specs.Operands.{hex_from}
+use Rattle.trace_model.specs.Operands.{hex_from, key_word, mode_word, may_be, key_at, mode_with, mode_at}
 
 -- the value of a step that did not fail
 pub bind_ok : {A B : Type 0} (r : Result A TraceCause) (f : A → Result B TraceCause) (y : B) → (r >>= f) ≡ Ok y → (x : A) × (r ≡ Ok x) × (f x ≡ Ok y)
@@ -235,6 +237,48 @@ pub side_again : (s : Side) → side_at (side_word s) ≡ Ok s
 unfolding side_at
 side_again sides.Arena = refl
 side_again sides.Raw = refl
+
+-- ---- keys and modes
+
+pub key_takes : (w : List ℕ) (k : KeyKind) → key_at w ≡ Ok k → w ≡ key_word k
+unfolding key_at
+key_takes w k e = elim (one_of key_word w Filename _ k e) [
+  | inl h ↦ h
+  | inr e1 ↦ elim (one_of key_word w Lineno _ k e1) [
+    | inl h ↦ h
+    | inr e2 ↦ elim (one_of key_word w Traceback _ k e2) [ inl h ↦ h | inr e3 ↦ absurd cc ]
+  ]
+]
+
+pub key_again : (k : KeyKind) → key_at (key_word k) ≡ Ok k
+unfolding key_at
+key_again Filename = refl
+key_again Lineno = refl
+key_again Traceback = refl
+
+-- a mode that may be with the key
+mode_is : (key : KeyKind) (w : List ℕ) (this c : Bool) → w ≡ mode_word this → mode_with key this ≡ Ok c
+    → (w ≡ mode_word c) × (may_be key c ≡ true)
+mode_is key w this c is e =
+    let p = test_holds (may_be key this) (Ok this) BadRange c e in
+    subst (λ (m : Bool). (w ≡ mode_word m) × (may_be key m ≡ true)) (ok_is this c p.1) (is, p.0)
+
+pub mode_takes : (key : KeyKind) (w : List ℕ) (c : Bool) → mode_at key w ≡ Ok c
+    → (w ≡ mode_word c) × (may_be key c ≡ true)
+unfolding mode_at
+mode_takes key w c e = by (bytes_eq w (mode_word true)) refl (bytes_eq w (mode_word false)) refl e
+  where
+    by : (a : Bool) → bytes_eq w (mode_word true) ≡ a → (b : Bool) → bytes_eq w (mode_word false) ≡ b
+        → cond a (mode_with key true) (cond b (mode_with key false) (Err UnknownWord)) ≡ Ok c
+        → (w ≡ mode_word c) × (may_be key c ≡ true)
+    by true is b other h = mode_is key w true c ((bytes_eq-Decides w (mode_word true)).0 is) h
+    by false is true other h = mode_is key w false c ((bytes_eq-Decides w (mode_word false)).0 other) h
+    by false is false other h = absurd cc
+
+pub mode_again : (key : KeyKind) (c : Bool) → may_be key c ≡ true → mode_at key (mode_word c) ≡ Ok c
+unfolding mode_at
+mode_again key true may = ap (λ (b : Bool). cond b (Ok true) (Err BadRange)) may
+mode_again key false may = ap (λ (b : Bool). cond b (Ok false) (Err BadRange)) may
 
 -- ---- bytes in hexadecimal
 

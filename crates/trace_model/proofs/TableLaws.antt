@@ -1,9 +1,8 @@
 -- What one more line adds to the table of a trace's texts.
-use Rattle.std.proofs.Common.{◌≡◌, Bool, true, false, cond, not, ◌||◌, List, [], ◌∷◌, ◌++◌, length, Option}
-use Rattle.std.proofs.Common.{Some, None, refl, sym, ap, ◌∙◌, append_assoc, append-nil, true≢false}
+use Rattle.std.proofs.Common.{◌≡◌, Bool, true, false, cond, not, ◌||◌, List, [], ◌∷◌, ◌++◌, length}
+use Rattle.std.proofs.Common.{refl, sym, ap, ◌∙◌, append_assoc, append-nil, true≢false}
 use Rattle.std.specs.Prelude.{◌==◌}
 use Rattle.std.specs.List.{filter, list_any}
-use Rattle.std.specs.Option.{option_to_list}
 use Rattle.std.specs.Str.{bytes_eq}
 use Rattle.std.proofs.lemmas.Grind.{flat_map-append}
 use Rattle.std.proofs.lemmas.List.Elements.{filter-append}
@@ -11,9 +10,9 @@ use Rattle.std.proofs.lemmas.Map.Views.{any-filter_same}
 use Rattle.std.proofs.lemmas.Slice.Eq.{bytes_eq-Decides}
 use Rattle.mem_base.specs.Name.{Name}
 use Rattle.mem_base.specs.Texts.{unknown, with_text}
-use Rattle.trace_model.specs.Plain.{Action, PlainTrack, text_of}
+use Rattle.trace_model.specs.Plain.{Action, PlainTrack, says}
 use Rattle.trace_model.specs.Reading.{with_action}
-use Rattle.trace_model.specs.Table.{texts_in, names_in, firsts, table_of, with_text_of}
+use Rattle.trace_model.specs.Table.{texts_in, names_in, firsts, table_of, with_texts}
 use Rattle.trace_model.proofs.TrackLaws.{suc_not_zero}
 
 -- ---- one more text of a list
@@ -77,13 +76,18 @@ firsts_push : (xs : List Name) (x : Name) → firsts (xs ++ x ∷ []) ≡ with_t
 firsts_push [] x = refl
 firsts_push (y ∷ ys) x = ap (λ (l : List Name). y ∷ filter (differs y) l) (firsts_push ys x) ∙ one_more x y (firsts ys)
 
+-- the texts of a list, and then those of another
+pub firsts_append : (xs ys : List Name) → firsts (xs ++ ys) ≡ with_texts (firsts xs) ys
+firsts_append xs [] = ap firsts (append-nil xs)
+firsts_append xs (y ∷ ys) =
+    ap firsts (sym (append_assoc xs (y ∷ []) ys)) ∙ firsts_append (xs ++ y ∷ []) ys
+    ∙ ap (λ (l : List Name). with_texts l ys) (firsts_push xs y)
+
 -- ---- one more line
 
-texts_push : (actions : List Action) (a : Action)
-    → texts_in (actions ++ a ∷ []) ≡ texts_in actions ++ option_to_list (text_of a)
+texts_push : (actions : List Action) (a : Action) → texts_in (actions ++ a ∷ []) ≡ texts_in actions ++ says a
 texts_push actions a =
-    flat_map-append (λ b. option_to_list (text_of b)) actions (a ∷ [])
-    ∙ ap (λ (l : List Name). texts_in actions ++ l) (append-nil (option_to_list (text_of a)))
+    flat_map-append says actions (a ∷ []) ∙ ap (λ (l : List Name). texts_in actions ++ l) (append-nil (says a))
 
 pub table_with_track : (ts : List PlainTrack) (name : Name)
     → table_of (ts ++ record { name = name; actions = [] } ∷ []) ≡ with_text (table_of ts) name
@@ -93,19 +97,17 @@ table_with_track ts name =
     ∙ firsts_push (unknown ∷ names_in ts) name
 
 names_with : (ts : List PlainTrack) (a : Action) → (length ts == 0) ≡ false
-    → names_in (with_action ts a) ≡ names_in ts ++ option_to_list (text_of a)
+    → names_in (with_action ts a) ≡ names_in ts ++ says a
 names_with [] a some = absurd (true≢false some)
 names_with (t ∷ []) a some =
     ap (λ (l : List Name). t.name ∷ l) (append-nil (texts_in (t.actions ++ a ∷ [])) ∙ texts_push t.actions a
-    ∙ ap (λ (l : List Name). l ++ option_to_list (text_of a)) (sym (append-nil (texts_in t.actions))))
+    ∙ ap (λ (l : List Name). l ++ says a) (sym (append-nil (texts_in t.actions))))
 names_with (t ∷ u ∷ ts) a some =
     ap (λ (l : List Name). (t.name ∷ texts_in t.actions) ++ l) (names_with (u ∷ ts) a (suc_not_zero (length ts)))
-    ∙ sym (append_assoc (t.name ∷ texts_in t.actions) (names_in (u ∷ ts)) (option_to_list (text_of a)))
+    ∙ sym (append_assoc (t.name ∷ texts_in t.actions) (names_in (u ∷ ts)) (says a))
 
 pub table_with_action : (ts : List PlainTrack) (a : Action) → (length ts == 0) ≡ false
-    → table_of (with_action ts a) ≡ with_text_of (table_of ts) (text_of a)
-table_with_action ts a some = ap (λ (l : List Name). firsts (unknown ∷ l)) (names_with ts a some) ∙ by (text_of a)
-  where
-    by : (o : Option Name) → firsts (unknown ∷ names_in ts ++ option_to_list o) ≡ with_text_of (table_of ts) o
-    by None = ap (λ (l : List Name). firsts (unknown ∷ l)) (append-nil (names_in ts))
-    by (Some name) = firsts_push (unknown ∷ names_in ts) name
+    → table_of (with_action ts a) ≡ with_texts (table_of ts) (says a)
+table_with_action ts a some =
+    ap (λ (l : List Name). firsts (unknown ∷ l)) (names_with ts a some)
+    ∙ firsts_append (unknown ∷ names_in ts) (says a)

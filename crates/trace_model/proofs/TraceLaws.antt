@@ -12,16 +12,16 @@ use Rattle.std.proofs.lemmas.List.Sums.{sum_by-cons, sum_by-append}
 use Rattle.std.proofs.lemmas.Grind.{flat_map-append}
 use Rattle.std.proofs.lemmas.List.Splits.{join_with_byte-slice_split}
 use Rattle.std.proofs.lemmas.Slice.Eq.{bytes_eq-Decides}
-use Rattle.mem_base.specs.declared.limits.TheConstants.{MAX_OPS, MAX_PICKS, MAX_REPORTS, MAX_TRACKS}
+use Rattle.mem_base.specs.declared.limits.TheConstants.{MAX_OPS, MAX_PICKS, MAX_REPORTS, MAX_SNAPSHOTS, MAX_TRACKS}
 use Rattle.mem_base.specs.Texts.{IsDistinct}
 use Rattle.mem_base.specs.Name.{Name}
 use Rattle.trace_model.specs.Operands.{is_between, is_name}
 use Rattle.trace_model.specs.Plain.{Action, PlainTrack, PlainTrace, is_report, depth, has_frame, keeps_few}
-use Rattle.trace_model.specs.Plain.{Fits, KeepFrames}
+use Rattle.trace_model.specs.Plain.{Fits, KeepFrames, has_few_rules}
 use Rattle.trace_model.specs.Spelling.{head_text, line_of, track_line, pick_line, with_end, action_lines}
 use Rattle.trace_model.specs.Spelling.{track_lines, pick_lines, names_of, name_at_index, action_count}
 use Rattle.trace_model.specs.Spelling.{reports_in, report_count, pick_count, header, body, spelling, line_end}
-use Rattle.trace_model.specs.Spelling.{FitsTrack, FitsPick, IsWellFormed}
+use Rattle.trace_model.specs.Spelling.{snapshot_names, FitsTrack, FitsPick, IsWellFormed}
 use Rattle.trace_model.specs.declared.keyword.Keyword.{Keyword}
 use Rattle.trace_model.specs.declared.keyword.Head.TheVariants as heads
 use Rattle.trace_model.specs.declared.cause.TraceCause.{TraceCause}
@@ -36,7 +36,8 @@ use Rattle.trace_model.proofs.LineLaws.{Adds, a_track, a_pick, an_action, line_t
 use Rattle.trace_model.proofs.LineLaws.{track_line_again, pick_line_again}
 use Rattle.trace_model.proofs.NameLaws.{distinct_push, fresh_name, names_with, index_takes, index_again}
 use Rattle.trace_model.proofs.LineSteps.{with_header, with_line}
-use Rattle.trace_model.proofs.TrackLaws.{all_push, lines_of, new_track, count_of_new, reports_of_new}
+use Rattle.trace_model.proofs.SnapshotLaws.{snapshots_of_new, snapshots_front, snapshots_begun}
+use Rattle.trace_model.proofs.TrackLaws.{all_push, HasFewRules, lines_of, new_track, count_of_new, reports_of_new}
 use Rattle.trace_model.proofs.TrackLaws.{reports_in-cons, reports_in-push, room_kept, room_had, depth_push}
 use Rattle.trace_model.proofs.TrackLaws.{open_with_last, suc_not_zero, length-with_action, action_count-with}
 use Rattle.trace_model.proofs.TrackLaws.{report_count-with, fits_with, lines_with, with_last}
@@ -76,7 +77,7 @@ start_grows t u name named none e well =
     let differ = test_fails (list_any (λ track. bytes_eq track.name name) t.tracks) (cond (nat_lt (length t.tracks) MAX_TRACKS) (Ok (with_track t name)) (Err TooMany)) SameTrack u e in
     let p = test_holds (nat_lt (length t.tracks) MAX_TRACKS) (Ok (with_track t name)) TooMany u differ.1 in
     let few : length t.tracks < MAX_TRACKS = ltb-true _ _ p.0 in
-    let fit : FitsTrack (record { name = name; actions = [] }) = record { name = named; actions = tt; frames = tt } in
+    let fit : FitsTrack (record { name = name; actions = [] }) = record { name = named; actions = tt; frames = tt; rules = tt } in
     let more = length-append t.tracks (record { name = name; actions = [] } ∷ []) in
     subst (Grows t (track_line name)) (ok_is (with_track t name) u p.1) (
       record {
@@ -84,6 +85,7 @@ start_grows t u name named none e well =
         distinct = distinct_push t.tracks name differ.0 well.distinct;
         few = omega (arith, count_of_new t.tracks name, well.few);
         reports = omega (arith, reports_of_new t.tracks name, well.reports);
+        snapshots = omega (arith, ap length (snapshots_of_new t.tracks name), well.snapshots);
         fits = all_push FitsTrack t.tracks (record { name = name; actions = [] }) well.fits fit;
         picks = picks_stay t.tracks (t.tracks ++ record { name = name; actions = [] } ∷ []) t.picks (omega (arith, more)) well.picks;
         picked = well.picked;
@@ -103,16 +105,27 @@ add_grows t u a fits some none e well =
     let f = test_fails (not (has_frame height a)) (cond (has_room t a && keeps_few height a) (Ok longer) (Err TooMany)) NoFrame u e in
     let p = test_holds (has_room t a && keeps_few height a) (Ok longer) TooMany u f.1 in
     let allowed = both (has_room t a) (keeps_few height a) p.0 in
-    let rooms = both (nat_lt (action_count t.tracks) MAX_OPS) (not (is_report a) || nat_lt (report_count t.tracks) MAX_REPORTS) allowed.0 in
-    let room : action_count t.tracks < MAX_OPS = ltb-true _ _ rooms.0 in
+    let reports = not (is_report a) || nat_lt (report_count t.tracks) MAX_REPORTS in
+    let names = nat_le (length (snapshot_names longer.tracks)) MAX_SNAPSHOTS in
+    let ops = nat_lt (action_count t.tracks) MAX_OPS in
+    let for_rules = both (ops && reports && names) (has_few_rules a) allowed.0 in
+    let for_names = both (ops && reports) names for_rules.0 in
+    let for_both = both ops reports for_names.0 in
+    let room : action_count t.tracks < MAX_OPS = ltb-true _ _ for_both.0 in
     let same = length-with_action t.tracks a in
     subst (Grows t (line_of a)) (ok_is (record t { tracks = with_action t.tracks a }) u p.1) (
       record {
         tracks = omega (arith, same, well.tracks);
         distinct = subst IsDistinct (sym (names_with t.tracks a)) well.distinct;
         few = omega (arith, action_count-with t.tracks a some, room);
-        reports = omega (arith, report_count-with t.tracks a some, room_kept (is_report a) (report_count t.tracks) MAX_REPORTS rooms.1 well.reports);
-        fits = fits_with t.tracks a fits (is_so (has_frame height a) f.0) allowed.1 well.fits;
+        reports = omega (
+          arith,
+          report_count-with t.tracks a some,
+          room_kept (is_report a) (report_count t.tracks) MAX_REPORTS
+              for_both.1 well.reports,
+        );
+        snapshots = leb-true _ _ for_names.1;
+        fits = fits_with t.tracks a fits (is_so (has_frame height a) f.0) allowed.1 for_rules.1 well.fits;
         picks = picks_stay t.tracks (with_action t.tracks a) t.picks (omega (arith, same)) well.picks;
         picked = well.picked;
       },
@@ -131,6 +144,7 @@ pick_grows t u name i times some found e well =
         distinct = well.distinct;
         few = well.few;
         reports = well.reports;
+        snapshots = well.snapshots;
         fits = well.fits;
         picks = all_push (FitsPick t.tracks) t.picks (i, times) well.picks (there.0, some);
         picked = omega (arith, sum_by-append (λ (q : ℕ × ℕ). q.1) t.picks ((i, times) ∷ []), few);
@@ -182,7 +196,16 @@ lines_take k t u (line ∷ next ∷ more) e well =
     )
 
 no_tracks : IsWellFormed opening
-no_tracks = record { tracks = omega arith; distinct = λ i j text at_i at_j. absurd cc; few = omega arith; reports = omega arith; fits = tt; picks = tt; picked = omega arith }
+no_tracks = record {
+  tracks = omega arith;
+  distinct = λ i j text at_i at_j. absurd cc;
+  few = omega arith;
+  reports = omega arith;
+  snapshots = omega arith;
+  fits = tt;
+  picks = tt;
+  picked = omega arith;
+}
 
 pub trace_takes : (bytes : List ℕ) (t : PlainTrace) → trace_at bytes ≡ Ok t → IsWellFormed t × (bytes ≡ spelling t)
 unfolding trace_at
@@ -235,10 +258,12 @@ some_tracks (u ∷ ts) t = suc_not_zero (length (ts ++ t ∷ []))
 
 actions_again : (k : ℕ) (ts : List PlainTrack) (name : Name) (did todo : List Action) (rest : List ℕ) → AllByRecursion Fits todo → KeepFrames (depth did) todo
     → action_count ts + length did + length todo ≤ MAX_OPS → report_count ts + reports_in did + reports_in todo ≤ MAX_REPORTS
+    → length (snapshot_names (ts ++ record { name = name; actions = did ++ todo } ∷ [])) ≤ MAX_SNAPSHOTS
+    → AllByRecursion HasFewRules todo
     → ReadsOn k (unpicked (ts ++ record { name = name; actions = did } ∷ [])) (action_lines todo ++ rest) (unpicked (ts ++ record { name = name; actions = did ++ todo } ∷ [])) rest
-actions_again k ts name did [] rest fits keep few reports =
+actions_again k ts name did [] rest fits keep few reports names rules =
     (k, ap (λ (acts : List Action). lines_at k (unpicked (ts ++ record { name = name; actions = acts } ∷ [])) (cut rest)) (sym (append-nil did)))
-actions_again k ts name did (a ∷ todo) rest fits keep few reports =
+actions_again k ts name did (a ∷ todo) rest fits keep few reports names rules =
     let last : PlainTrack = record { name = name; actions = did } in
     let t : PlainTrace = unpicked (ts ++ last ∷ []) in
     let u : PlainTrace = unpicked (ts ++ record { name = name; actions = did ++ a ∷ [] } ∷ []) in
@@ -247,7 +272,15 @@ actions_again k ts name did (a ∷ todo) rest fits keep few reports =
     let for_all : nat_lt (action_count t.tracks) MAX_OPS ≡ true = lt-ltb _ _ (omega (arith, counts_with_last ts last, few)) in
     let for_reports : (not (is_report a) || nat_lt (report_count t.tracks) MAX_REPORTS) ≡ true =
     room_had (is_report a) (report_count t.tracks) MAX_REPORTS (omega (arith, reports_with_last ts last, counted, reports)) in
-    let room : has_room t a ≡ true = (λ i. for_all i && for_reports i) in
+    let whole = append_assoc did (a ∷ []) todo in
+    let names_then : length (snapshot_names (ts ++ record { name = name; actions = (did ++ a ∷ []) ++ todo } ∷ []))
+    ≤ MAX_SNAPSHOTS =
+    subst (λ (acts : List Action). length (snapshot_names (ts ++ record { name = name; actions = acts } ∷ [])) ≤ MAX_SNAPSHOTS)
+    (sym whole) names in
+    let for_names : nat_le (length (snapshot_names (with_action t.tracks a))) MAX_SNAPSHOTS ≡ true =
+    ap (λ (l : List PlainTrack). nat_le (length (snapshot_names l)) MAX_SNAPSHOTS) (with_last ts last a)
+    ∙ le-leb _ _ (omega (arith, snapshots_begun ts name (did ++ a ∷ []) todo, names_then)) in
+    let room : has_room t a ≡ true = (λ i. for_all i && for_reports i && for_names i && rules.0 i) in
     let height : open_frames t.tracks ≡ depth did = open_with_last ts last in
     let longer = record t { tracks = with_action t.tracks a } in
     let framed : has_frame (open_frames t.tracks) a ≡ true = ap (λ (n : ℕ). has_frame n a) height ∙ keep.0 in
@@ -256,7 +289,8 @@ actions_again k ts name did (a ∷ todo) rest fits keep few reports =
     ap (λ (v : Bool). cond (not v) (Err NoFrame) (cond (has_room t a && keeps_few (open_frames t.tracks) a) (Ok longer) (Err TooMany))) framed
     ∙ (λ i. cond (room i && fewer i) (Ok longer) (Err TooMany)) ∙ ap (λ (l : List PlainTrack). Ok (unpicked l)) (with_last ts last a) in
     let kept : KeepFrames (depth (did ++ a ∷ [])) todo = subst (λ (n : ℕ). KeepFrames n todo) (sym (depth_push 0 did a)) keep.2 in
-    let on = actions_again (k + 1) ts name (did ++ a ∷ []) todo rest fits.1 kept (omega (arith, length-append did (a ∷ []), few)) (omega (arith, pushed, counted, reports)) in
+    let on = actions_again (k + 1) ts name (did ++ a ∷ []) todo rest fits.1 kept (omega (arith, length-append did (a ∷ []), few))
+    (omega (arith, pushed, counted, reports)) names_then rules.1 in
     let placed = λ (key : Keyword). ap (λ (b : Bool). b || false) (some_tracks ts last) in
     let read = line_in_front k t u (unpicked (ts ++ record { name = name; actions = (did ++ a ∷ []) ++ todo } ∷ [])) (line_of a) (action_lines todo ++ rest) rest
     (line_words a fits.0) (action_line_again t u a fits.0 placed added) on in (
@@ -264,7 +298,8 @@ actions_again k ts name did (a ∷ todo) rest fits keep few reports =
       ap (λ (x : List ℕ). lines_at k t (cut (x ++ rest))) (flat_map-cons (λ b. with_end (line_of b)) a todo)
           ∙ ap (λ (x : List ℕ). lines_at k t (cut x)) (append_assoc (with_end (line_of a)) (action_lines todo) rest)
           ∙ read.1
-          ∙ ap (λ (acts : List Action). lines_at read.0 (unpicked (ts ++ record { name = name; actions = acts } ∷ [])) (cut rest)) (append_assoc did (a ∷ []) todo),
+          ∙ ap (λ (acts : List Action). lines_at read.0 (unpicked (ts ++ record { name = name; actions = acts } ∷ [])) (cut rest))
+          whole,
     )
 
 fits_at : (done todo : List PlainTrack) (t : PlainTrack) → AllByRecursion FitsTrack (done ++ t ∷ todo) → FitsTrack t
@@ -285,7 +320,11 @@ tracks_again k done (t ∷ todo) rest well =
     let begun : start (unpicked done) t.name ≡ Ok (unpicked (done ++ last ∷ [])) =
     ap (λ (b : Bool). cond b (Err SameTrack) (cond (nat_lt (length done) MAX_TRACKS) (Ok (with_track (unpicked done) t.name)) (Err TooMany))) (fresh_name done todo t well.distinct)
     ∙ ap (λ (b : Bool). cond b (Ok (with_track (unpicked done) t.name)) (Err TooMany)) place in
-    let acts = actions_again (k + 1) done t.name [] t.actions (track_lines todo ++ rest) fit.actions fit.frames (omega (arith, ops, ops_too, well.few)) (omega (arith, prints, prints_too, well.reports)) in
+    let together = ap (λ (ts : List PlainTrack). length (snapshot_names ts)) whole in
+    let names : length (snapshot_names (done ++ t ∷ [])) ≤ MAX_SNAPSHOTS =
+    omega (arith, snapshots_front (done ++ t ∷ []) todo, together, well.snapshots) in
+    let acts = actions_again (k + 1) done t.name [] t.actions (track_lines todo ++ rest) fit.actions fit.frames
+    (omega (arith, ops, ops_too, well.few)) (omega (arith, prints, prints_too, well.reports)) names fit.rules in
     let on = tracks_again acts.0 (done ++ t ∷ []) todo rest (subst (λ (ts : List PlainTrack). IsWellFormed (unpicked ts)) (sym whole) well) in
     let read = line_in_front k (unpicked done) (unpicked (done ++ last ∷ [])) (unpicked ((done ++ t ∷ []) ++ todo)) (track_line t.name) (action_lines t.actions ++ (track_lines todo ++ rest)) rest
     (words_plain (head_text heads.Track ∷ t.name ∷ []) (track_words_fit t.name fit.name)) (track_line_again (unpicked done) (unpicked (done ++ last ∷ [])) t.name fit.name refl begun) (on.0, acts.1 ∙ on.1) in (
@@ -330,6 +369,7 @@ trace_again t well =
       distinct = well.distinct;
       few = well.few;
       reports = well.reports;
+      snapshots = well.snapshots;
       fits = well.fits;
       picks = tt;
       picked = omega arith;

@@ -2,7 +2,7 @@
 use Rattle.std.proofs.Common.{◌≡◌, ℕ, suc, ◌+◌, ◌<◌, ◌≤◌, Bool, true, false, cond, not, ◌||◌, List, [], ◌∷◌}
 use Rattle.std.proofs.Common.{◌++◌, length, refl, sym, ap, ◌∙◌, append_assoc, append-nil, arith}
 use Rattle.std.proofs.Common.{length-append, true≢false}
-use Rattle.std.specs.Prelude.{◌==◌, nat_lt}
+use Rattle.std.specs.Prelude.{◌==◌, nat_lt, IsTrue}
 use Rattle.std.specs.List.{AllByRecursion}
 use Rattle.std.proofs.lemmas.Bool.{eqb-true, ltb-true, lt-ltb}
 use Rattle.std.proofs.lemmas.List.Concat.{flat_map-cons}
@@ -10,7 +10,7 @@ use Rattle.std.proofs.lemmas.List.Sums.{sum_by-cons, sum_by-append}
 use Rattle.std.proofs.lemmas.Grind.{flat_map-append}
 use Rattle.mem_base.specs.Name.{Name}
 use Rattle.trace_model.specs.Plain.{Action, PlainTrack, is_report, depth, depth_after, depth_from, has_frame}
-use Rattle.trace_model.specs.Plain.{keeps_few, Fits, KeepFrames}
+use Rattle.trace_model.specs.Plain.{keeps_few, Fits, KeepFrames, has_few_rules}
 use Rattle.trace_model.specs.Spelling.{line_of, track_line, with_end, action_lines, track_lines, action_count}
 use Rattle.trace_model.specs.Spelling.{reports_in, report_count, FitsTrack}
 use Rattle.trace_model.specs.Reading.{open_frames, with_action}
@@ -88,6 +88,9 @@ room_had false count most few = refl
 
 -- ---- one more operation of the last track
 
+abbrev pub HasFewRules : Action → Type 0
+HasFewRules a = IsTrue (has_few_rules a)
+
 pub suc_not_zero : (n : ℕ) → (suc n == 0) ≡ false
 suc_not_zero n = by (suc n == 0) refl
   where
@@ -124,12 +127,17 @@ open_with (t ∷ u ∷ []) a some = depth_push 0 u.actions a
 open_with (t ∷ u ∷ v ∷ ts) a some = open_with (u ∷ v ∷ ts) a (suc_not_zero (length (v ∷ ts)))
 
 pub fits_with : (ts : List PlainTrack) (a : Action) → Fits a → has_frame (open_frames ts) a ≡ true → keeps_few (open_frames ts) a ≡ true
-    → AllByRecursion FitsTrack ts → AllByRecursion FitsTrack (with_action ts a)
-fits_with [] a fit has few fits = tt
-fits_with (t ∷ []) a fit has few fits =
-    let actions = all_push Fits t.actions a fits.0.actions fit in
-    (record { name = fits.0.name; actions = actions; frames = frames_push 0 t.actions a fits.0.frames has few }, tt)
-fits_with (t ∷ u ∷ ts) a fit has few fits = (fits.0, fits_with (u ∷ ts) a fit has few fits.1)
+    → has_few_rules a ≡ true → AllByRecursion FitsTrack ts → AllByRecursion FitsTrack (with_action ts a)
+fits_with [] a fit has few rules fits = tt
+fits_with (t ∷ []) a fit has few rules fits =
+    let track : FitsTrack (record { name = t.name; actions = t.actions ++ a ∷ [] }) = record {
+      name = fits.0.name;
+      actions = all_push Fits t.actions a fits.0.actions fit;
+      frames = frames_push 0 t.actions a fits.0.frames has few;
+      rules = all_push HasFewRules t.actions a fits.0.rules rules;
+    } in
+    (track, tt)
+fits_with (t ∷ u ∷ ts) a fit has few rules fits = (fits.0, fits_with (u ∷ ts) a fit has few rules fits.1)
 
 pub lines_with : (ts : List PlainTrack) (a : Action) → (length ts == 0) ≡ false → track_lines (with_action ts a) ≡ track_lines ts ++ with_end (line_of a)
 lines_with [] a some = absurd (true≢false some)

@@ -8,6 +8,8 @@ use Rattle.std.specs.Fmt.{signed_decimal}
 use Rattle.std.proofs.lemmas.Bool.{eqb-true, leb-true, cases_lt}
 use Rattle.std.proofs.lemmas.Fmt.{digits_decimal, decimal_nonempty}
 use Rattle.std.proofs.lemmas.List.Splits.{slice_split-cons_no}
+use Rattle.mem_base.specs.declared.trace.KeyKind.{KeyKind}
+use Rattle.mem_base.specs.declared.trace.KeyKind.TheVariants.{Filename, Lineno, Traceback}
 use Rattle.mem_base.specs.declared.trace.Letter.{Letter}
 use Rattle.mem_base.specs.declared.trace.Letter.TheVariants.{Raw, Mem, Obj}
 use Rattle.mem_base.specs.declared.trace.Side.{Side}
@@ -16,7 +18,7 @@ use Rattle.mem_base.specs.Name.{Name}
 use Rattle.mem_base.specs.declared.limits.TheConstants.{MAX_PICKS}
 use Rattle.mem_base.specs.Offset.{IsOffset}
 use Rattle.trace_model.specs.Operands.{is_between, is_file, is_name, is_name_byte, letter_word, side_word}
-use Rattle.trace_model.specs.Operands.{hex_word, glyph}
+use Rattle.trace_model.specs.Operands.{key_word, mode_word, hex_word, glyph}
 use Rattle.trace_model.proofs.OperandLaws.{are_digits, own, both, low, high, between, whole}
 
 abbrev pub has_some : List ℕ → Bool
@@ -110,6 +112,15 @@ pub side_is_word : (s : Side) → is_word (side_word s) ≡ true
 side_is_word sides.Arena = refl
 side_is_word sides.Raw = refl
 
+pub key_is_word : (k : KeyKind) → is_word (key_word k) ≡ true
+key_is_word Filename = refl
+key_is_word Lineno = refl
+key_is_word Traceback = refl
+
+pub mode_is_word : (cumulative : Bool) → is_word (mode_word cumulative) ≡ true
+mode_is_word true = refl
+mode_is_word false = refl
+
 pub track_words_fit : (name : Name) → is_name name ≡ true → AllByRecursion (λ w. is_word w ≡ true) (codes "track" ∷ name ∷ [])
 track_words_fit name h = (refl, (name_word name h, tt))
 
@@ -150,7 +161,7 @@ words_again w (x ∷ xs) are =
     cut_first (λ b. b == 32) (is_between 33 126) (not_sep 32 33 (lit< tt)) w 32 (join_with_byte 32 (x ∷ xs)) refl (both (has_some w) (list_all (is_between 33 126) w) are.0).1
     ∙ ap (λ (l : List (List ℕ)). w ∷ l) (words_again x xs are.1)
 
-all_append : (p : ℕ → Bool) (xs ys : List ℕ) → list_all p xs ≡ true → list_all p ys ≡ true → list_all p (xs ++ ys) ≡ true
+pub all_append : (p : ℕ → Bool) (xs ys : List ℕ) → list_all p xs ≡ true → list_all p ys ≡ true → list_all p (xs ++ ys) ≡ true
 all_append p [] ys hx hy = hy
 all_append p (x ∷ xs) ys hx hy =
     let t = both (p x) (list_all p xs) hx in

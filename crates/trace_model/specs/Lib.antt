@@ -1,4 +1,5 @@
 pub mod Operands
+pub mod Rules
 pub mod Plain
 pub mod Spelling
 pub mod Cause

@@ -1,11 +1,13 @@
 -- The operands of a line: how each is spelt, which are in their ranges, and how a word is read as one.
-use Rattle.std.specs.Prelude.{ℕ, zero, suc, ◌+◌, ◌-◌, ◌*◌, ◌/◌, ◌%◌, ◌^◌, ℤ, pos, negsuc, Bool, false, ◌&&◌}
+use Rattle.std.specs.Prelude.{ℕ, zero, suc, ◌+◌, ◌-◌, ◌*◌, ◌/◌, ◌%◌, ◌^◌, ℤ, pos, negsuc, Bool, true, false, not, ◌&&◌}
 use Rattle.std.specs.Prelude.{◌||◌, nat_le, nat_lt, ◌==◌, if◌then◌else◌, List, [], ◌∷◌, length, Option, Some}
 use Rattle.std.specs.Prelude.{None, Result, Ok, Err, codes}
 use Rattle.std.specs.List.{list_all}
 use Rattle.std.specs.Str.{bytes_eq}
-use Rattle.mem_base.specs.declared.limits.TheConstants.{MAX_FILE, MAX_FRAME_LIMIT, MAX_LINE, MAX_NAME, MAX_PICKS}
-use Rattle.mem_base.specs.declared.limits.TheConstants.{MAX_REACH, MAX_REFUSAL}
+use Rattle.mem_base.specs.declared.limits.TheConstants.{MAX_FILE, MAX_FRAME_LIMIT, MAX_LINE, MAX_LINES, MAX_NAME}
+use Rattle.mem_base.specs.declared.limits.TheConstants.{MAX_PICKS, MAX_REACH, MAX_REFUSAL}
+use Rattle.mem_base.specs.declared.trace.KeyKind.{KeyKind}
+use Rattle.mem_base.specs.declared.trace.KeyKind.TheVariants.{Filename, Lineno, Traceback}
 use Rattle.mem_base.specs.declared.trace.Letter.{Letter}
 use Rattle.mem_base.specs.declared.trace.Letter.TheVariants.{Raw, Mem, Obj}
 use Rattle.mem_base.specs.declared.trace.Side.{Side}
@@ -24,6 +26,17 @@ letter_word letter = letter_byte letter ∷ []
 abbrev pub side_word : Side → List ℕ
 side_word sides.Arena = codes "arena"
 side_word sides.Raw = codes "raw"
+
+-- by what statistics are grouped
+abbrev pub key_word : KeyKind → List ℕ
+key_word Filename = codes "filename"
+key_word Lineno = codes "lineno"
+key_word Traceback = codes "traceback"
+
+-- whether each kept frame of a trace counts, or the most recent one alone
+abbrev pub mode_word : Bool → List ℕ
+mode_word true = codes "cumulative"
+mode_word false = codes "plain"
 
 -- a hexadecimal digit
 abbrev pub glyph : ℕ → ℕ
@@ -56,6 +69,12 @@ is_file word = is_between 1 MAX_FILE (length word) && list_all is_file_byte word
 -- the greatest number of a domain: the greatest of 32 bits
 abbrev pub max_domain : ℕ
 max_domain = 2 ^ 32 - 1
+
+-- whether each kept frame may count, with that key: a traceback counts as a whole
+abbrev pub may_be : KeyKind → Bool → Bool
+may_be Filename cumulative = true
+may_be Lineno cumulative = true
+may_be Traceback cumulative = not cumulative
 
 abbrev pub is_letter_byte : ℕ → Bool
 is_letter_byte b = b == letter_byte Raw || b == letter_byte Mem || b == letter_byte Obj
@@ -130,6 +149,10 @@ limit_at w = number_in 1 MAX_FRAME_LIMIT w
 abbrev pub domain_at : List ℕ → Result ℕ TraceCause
 domain_at w = number_in 1 max_domain w
 
+-- how many lines of statistics are printed at most
+abbrev pub most_at : List ℕ → Result ℕ TraceCause
+most_at w = number_in 1 MAX_LINES w
+
 abbrev pub name_at : List ℕ → Result (Unit {0}) TraceCause
 name_at w = if is_name w then Ok tt else Err BadName
 
@@ -148,6 +171,24 @@ unfoldable pub side_at : List ℕ → Result Side TraceCause
 side_at w =
     if bytes_eq w (side_word sides.Arena) then Ok sides.Arena
     else if bytes_eq w (side_word sides.Raw) then Ok sides.Raw
+    else Err UnknownWord
+
+-- by what statistics are grouped
+unfoldable pub key_at : List ℕ → Result KeyKind TraceCause
+key_at w =
+    if bytes_eq w (key_word Filename) then Ok Filename
+    else if bytes_eq w (key_word Lineno) then Ok Lineno
+    else if bytes_eq w (key_word Traceback) then Ok Traceback
+    else Err UnknownWord
+
+-- whether each kept frame counts, where that may be with the key
+abbrev pub mode_with : KeyKind → Bool → Result Bool TraceCause
+mode_with key cumulative = if may_be key cumulative then Ok cumulative else Err BadRange
+
+unfoldable pub mode_at : KeyKind → List ℕ → Result Bool TraceCause
+mode_at key w =
+    if bytes_eq w (mode_word true) then mode_with key true
+    else if bytes_eq w (mode_word false) then mode_with key false
     else Err UnknownWord
 
 -- the value of a hexadecimal digit

@@ -1,7 +1,7 @@
 -- The operations of a trace with their names written out: for each its keyword, its operands, their ranges and
 -- how it is read. A new operation is said here, and the trace that the code's values stand for follows.
 use Rattle.std.specs.Prelude.{◌≡◌, ℕ, ◌+◌, ◌-◌, ◌<◌, ◌≤◌, ◌^◌, ℤ, Bool, true, false, not, ◌||◌, nat_le, nat_lt}
-use Rattle.std.specs.Prelude.{if◌then◌else◌, List, [], ◌∷◌, length, map, slice_get, unwrap_or, Option, Some, None}
+use Rattle.std.specs.Prelude.{if◌then◌else◌, List, [], ◌∷◌, length, map, unwrap_or, Option, Some, None}
 use Rattle.std.specs.Prelude.{Result, Ok, Err, codes, decimal, IsTrue}
 use Rattle.std.specs.List.{AllByRecursion}
 use Rattle.std.specs.Fmt.{signed_decimal}
@@ -9,9 +9,12 @@ use Rattle.std.specs.Option.{option_map}
 use Rattle.std.specs.Str.{bytes_eq}
 use Rattle.mem_base.specs.Name.{Name}
 use Rattle.mem_base.specs.Offset.{IsOffset}
-use Rattle.mem_base.specs.declared.limits.TheConstants.{MAX_FRAME_LIMIT, MAX_FRAMES, MAX_LINE, MAX_REACH, MAX_REFUSAL}
-use Rattle.mem_base.specs.declared.texts.TextId.{TextId}
+pub use Rattle.mem_base.specs.Texts.{text_at}
+use Rattle.mem_base.specs.declared.limits.TheConstants.{MAX_FRAME_LIMIT, MAX_FRAMES, MAX_LINE, MAX_LINES, MAX_REACH}
+use Rattle.mem_base.specs.declared.limits.TheConstants.{MAX_REFUSAL, MAX_RULES}
+use Rattle.mem_base.specs.declared.trace.KeyKind.{KeyKind}
 use Rattle.mem_base.specs.declared.trace.Letter.{Letter}
+use Rattle.mem_base.specs.declared.trace.Rule.{Rule}
 use Rattle.mem_base.specs.declared.trace.Side.{Side}
 use Rattle.mem_base.specs.declared.trace.Op.{Op}
 use Rattle.mem_base.specs.declared.trace.Op.TheVariants as code
@@ -23,6 +26,8 @@ use Rattle.trace_model.specs.Operands.{max_domain}
 use Rattle.trace_model.specs.Operands.{number_at, offset_at, count_at, refusal_at, name_at, letter_at}
 use Rattle.trace_model.specs.Operands.{side_at, hex_at}
 use Rattle.trace_model.specs.Operands.{file_at, line_number_at, limit_at, domain_at}
+use Rattle.trace_model.specs.Operands.{key_word, mode_word, may_be, key_at, mode_at, most_at}
+use Rattle.trace_model.specs.Rules.{rule_word, FitsRule, rules_at}
 use Rattle.trace_model.specs.declared.cause.TraceCause.{TraceCause}
 use Rattle.trace_model.specs.declared.cause.TraceCause.TheVariants.{UnknownWord, BadWords, ForgedLetter}
 use Rattle.trace_model.specs.declared.keyword.Keyword.{Keyword}
@@ -53,6 +58,12 @@ pub data Action : Type 0 where
   unmark : (domain number : ℕ) → Action
   -- the trace of a block
   origin : Name → Action
+  -- what is traced is kept under a name
+  snapshot : Name → Action
+  -- what the rules leave of the second is kept under the first
+  keep : (new old : Name) → List Rule → Action
+  -- the statistics of a snapshot by a key, at most so many lines
+  stats : Name → KeyKind → (cumulative : Bool) → (most : ℕ) → Action
   heap : Action
   refuse : Side → ℕ → Action
   other : Action
@@ -68,10 +79,6 @@ pub record PlainTrace : Type 0 where
   pub picks : List (ℕ × ℕ)
 
 -- ---- what the code's values stand for
-
--- the text with that number
-abbrev pub text_at : List Name → TextId → Name
-text_at texts id = unwrap_or (slice_get texts id.0) []
 
 abbrev pub action_of : List Name → Op → Action
 action_of texts code.Acquire = acquire
@@ -93,9 +100,9 @@ action_of texts code.Traced = traced_memory
 action_of texts (code.Mark domain number size) = mark domain number size
 action_of texts (code.Unmark domain number) = unmark domain number
 action_of texts (code.Origin name) = origin (text_at texts name)
-action_of texts (code.Snapshot name) = other
-action_of texts (code.Keep new old rules) = other
-action_of texts (code.Stats name key cumulative lines) = other
+action_of texts (code.Snapshot name) = snapshot (text_at texts name)
+action_of texts (code.Keep new old rules) = keep (text_at texts new) (text_at texts old) rules
+action_of texts (code.Stats name key cumulative lines) = stats (text_at texts name) key cumulative lines
 action_of texts (code.Compare new old key cumulative lines) = other
 action_of texts (code.Dump name) = other
 action_of texts code.Heap = heap
@@ -136,9 +143,9 @@ IsKnownAmong texts code.Traced = Unit {0}
 IsKnownAmong texts (code.Mark domain number size) = 1 ≤ domain
 IsKnownAmong texts (code.Unmark domain number) = 1 ≤ domain
 IsKnownAmong texts (code.Origin name) = name.0 < texts
-IsKnownAmong texts (code.Snapshot name) = ⊥
-IsKnownAmong texts (code.Keep new old rules) = ⊥
-IsKnownAmong texts (code.Stats name key cumulative lines) = ⊥
+IsKnownAmong texts (code.Snapshot name) = name.0 < texts
+IsKnownAmong texts (code.Keep new old rules) = (new.0 < texts) × (old.0 < texts)
+IsKnownAmong texts (code.Stats name key cumulative lines) = name.0 < texts
 IsKnownAmong texts (code.Compare new old key cumulative lines) = ⊥
 IsKnownAmong texts (code.Dump name) = ⊥
 IsKnownAmong texts code.Heap = Unit {0}
@@ -167,6 +174,9 @@ keyword_text keys.Traced = codes "traced"
 keyword_text keys.Mark = codes "mark"
 keyword_text keys.Unmark = codes "unmark"
 keyword_text keys.Where = codes "where"
+keyword_text keys.Snapshot = codes "snapshot"
+keyword_text keys.Keep = codes "keep"
+keyword_text keys.Stats = codes "stats"
 keyword_text keys.Heap = codes "heap"
 keyword_text keys.Refuse = codes "refuse"
 
@@ -175,7 +185,7 @@ abbrev pub keywords : List Keyword
 keywords =
     keys.Acquire ∷ keys.Release ∷ keys.Malloc ∷ keys.Calloc ∷ keys.Realloc ∷ keys.Free ∷ keys.Poke ∷ keys.Peek
     ∷ keys.Call ∷ keys.Line ∷ keys.Return ∷ keys.Start ∷ keys.Stop ∷ keys.Clear ∷ keys.ResetPeak ∷ keys.Traced
-    ∷ keys.Mark ∷ keys.Unmark ∷ keys.Where ∷ keys.Heap ∷ keys.Refuse ∷ []
+    ∷ keys.Mark ∷ keys.Unmark ∷ keys.Where ∷ keys.Snapshot ∷ keys.Keep ∷ keys.Stats ∷ keys.Heap ∷ keys.Refuse ∷ []
 
 -- the one of these keywords whose text this is
 abbrev pub keyword_among : List Keyword → List ℕ → Result Keyword TraceCause
@@ -203,6 +213,9 @@ prints_more keys.Traced = false
 prints_more keys.Mark = false
 prints_more keys.Unmark = false
 prints_more keys.Where = true
+prints_more keys.Snapshot = true
+prints_more keys.Keep = true
+prints_more keys.Stats = true
 prints_more keys.Heap = true
 prints_more keys.Refuse = false
 
@@ -229,6 +242,9 @@ keyword_of traced_memory = Some keys.Traced
 keyword_of (mark domain number size) = Some keys.Mark
 keyword_of (unmark domain number) = Some keys.Unmark
 keyword_of (origin name) = Some keys.Where
+keyword_of (snapshot name) = Some keys.Snapshot
+keyword_of (keep new old rules) = Some keys.Keep
+keyword_of (stats name key cumulative most) = Some keys.Stats
 keyword_of heap = Some keys.Heap
 keyword_of (refuse side number) = Some keys.Refuse
 keyword_of other = None
@@ -254,34 +270,81 @@ name_of traced_memory = None
 name_of (mark domain number size) = None
 name_of (unmark domain number) = None
 name_of (origin name) = Some name
+name_of (snapshot name) = None
+name_of (keep new old rules) = None
+name_of (stats name key cumulative most) = None
 name_of heap = None
 name_of (refuse side number) = None
 name_of other = None
 
--- the text that it says: the name of the block that it works on, or the file of a call
-abbrev pub text_of : Action → Option Name
-text_of acquire = None
-text_of release = None
-text_of (malloc letter name size) = Some name
-text_of (calloc letter name count size) = Some name
-text_of (realloc letter name size) = Some name
-text_of (free letter name) = Some name
-text_of (poke name offset bytes) = Some name
-text_of (peek name offset count) = Some name
-text_of (enter file line) = Some file
-text_of (go_to line) = None
-text_of leave = None
-text_of (start_tracing limit) = None
-text_of stop_tracing = None
-text_of clear_traces = None
-text_of reset_peak = None
-text_of traced_memory = None
-text_of (mark domain number size) = None
-text_of (unmark domain number) = None
-text_of (origin name) = Some name
-text_of heap = None
-text_of (refuse side number) = None
-text_of other = None
+-- the texts that it says: the names of blocks and snapshots, and the file of a call
+abbrev pub says : Action → List Name
+says acquire = []
+says release = []
+says (malloc letter name size) = name ∷ []
+says (calloc letter name count size) = name ∷ []
+says (realloc letter name size) = name ∷ []
+says (free letter name) = name ∷ []
+says (poke name offset bytes) = name ∷ []
+says (peek name offset count) = name ∷ []
+says (enter file line) = file ∷ []
+says (go_to line) = []
+says leave = []
+says (start_tracing limit) = []
+says stop_tracing = []
+says clear_traces = []
+says reset_peak = []
+says traced_memory = []
+says (mark domain number size) = []
+says (unmark domain number) = []
+says (origin name) = name ∷ []
+says (snapshot name) = name ∷ []
+says (keep new old rules) = new ∷ old ∷ []
+says (stats name key cumulative most) = name ∷ []
+says heap = []
+says (refuse side number) = []
+says other = []
+
+-- the name of the snapshot that it writes, and the rules by which it keeps traces of another one
+abbrev pub writes : Action → Option (Name × List Rule)
+writes acquire = None
+writes release = None
+writes (malloc letter name size) = None
+writes (calloc letter name count size) = None
+writes (realloc letter name size) = None
+writes (free letter name) = None
+writes (poke name offset bytes) = None
+writes (peek name offset count) = None
+writes (enter file line) = None
+writes (go_to line) = None
+writes leave = None
+writes (start_tracing limit) = None
+writes stop_tracing = None
+writes clear_traces = None
+writes reset_peak = None
+writes traced_memory = None
+writes (mark domain number size) = None
+writes (unmark domain number) = None
+writes (origin name) = None
+writes (snapshot name) = Some (name, [])
+writes (keep new old rules) = Some (new, rules)
+writes (stats name key cumulative most) = None
+writes heap = None
+writes (refuse side number) = None
+writes other = None
+
+-- the name of the snapshot that it writes
+abbrev pub written_by : Action → Option Name
+written_by a = option_map (λ w. w.0) (writes a)
+
+-- there are not too many rules
+abbrev pub are_few : Option (Name × List Rule) → Bool
+are_few None = true
+are_few (Some w) = nat_le (length w.1) MAX_RULES
+
+-- it has no more rules than one may have
+abbrev pub has_few_rules : Action → Bool
+has_few_rules a = are_few (writes a)
 
 -- whether it prints more than a reply
 abbrev pub is_report : Action → Bool
@@ -308,6 +371,9 @@ operands_of traced_memory = []
 operands_of (mark domain number size) = decimal domain ∷ decimal number ∷ decimal size ∷ []
 operands_of (unmark domain number) = decimal domain ∷ decimal number ∷ []
 operands_of (origin name) = name ∷ []
+operands_of (snapshot name) = name ∷ []
+operands_of (keep new old rules) = new ∷ old ∷ map rule_word rules
+operands_of (stats name key cumulative most) = name ∷ key_word key ∷ mode_word cumulative ∷ decimal most ∷ []
 operands_of heap = []
 operands_of (refuse side number) = side_word side ∷ decimal number ∷ []
 operands_of other = []
@@ -346,6 +412,10 @@ Fits traced_memory = Unit {0}
 Fits (mark domain number size) = IsDomain domain × (number < 2 ^ 64) × (size < 2 ^ 64)
 Fits (unmark domain number) = IsDomain domain × (number < 2 ^ 64)
 Fits (origin name) = IsTrue (is_name name)
+Fits (snapshot name) = IsTrue (is_name name)
+Fits (keep new old rules) = IsTrue (is_name new) × IsTrue (is_name old) × AllByRecursion FitsRule rules
+Fits (stats name key cumulative most) =
+    IsTrue (is_name name) × IsTrue (may_be key cumulative) × (1 ≤ most) × (most ≤ MAX_LINES)
 Fits heap = Unit {0}
 Fits (refuse side number) = (1 ≤ number) × (number ≤ MAX_REFUSAL)
 Fits other = ⊥
@@ -373,6 +443,9 @@ needs_frame traced_memory = false
 needs_frame (mark domain number size) = false
 needs_frame (unmark domain number) = false
 needs_frame (origin name) = false
+needs_frame (snapshot name) = false
+needs_frame (keep new old rules) = false
+needs_frame (stats name key cumulative most) = false
 needs_frame heap = false
 needs_frame (refuse side number) = false
 needs_frame other = false
@@ -398,6 +471,9 @@ depth_after n traced_memory = n
 depth_after n (mark domain number size) = n
 depth_after n (unmark domain number) = n
 depth_after n (origin name) = n
+depth_after n (snapshot name) = n
+depth_after n (keep new old rules) = n
+depth_after n (stats name key cumulative most) = n
 depth_after n heap = n
 depth_after n (refuse side number) = n
 depth_after n other = n
@@ -500,6 +576,24 @@ unmark_at domain number = do
 unfoldable pub origin_at : List ℕ → Result Action TraceCause
 origin_at name = name_at name >>= λ u. Ok (origin name)
 
+unfoldable pub snapshot_at : List ℕ → Result Action TraceCause
+snapshot_at name = name_at name >>= λ u. Ok (snapshot name)
+
+unfoldable pub keep_at : List ℕ → List ℕ → List (List ℕ) → Result Action TraceCause
+keep_at new old rules = do
+  u ← name_at new
+  v ← name_at old
+  rs ← rules_at rules
+  Ok (keep new old rs)
+
+unfoldable pub stats_at : List ℕ → List ℕ → List ℕ → List ℕ → Result Action TraceCause
+stats_at name key mode most = do
+  u ← name_at name
+  k ← key_at key
+  c ← mode_at k mode
+  n ← most_at most
+  Ok (stats name k c n)
+
 unfoldable pub refuse_at : List ℕ → List ℕ → Result Action TraceCause
 refuse_at side number = do
   s ← side_at side
@@ -546,6 +640,12 @@ action_at keys.Unmark (domain ∷ number ∷ []) = unmark_at domain number
 action_at keys.Unmark ws = Err BadWords
 action_at keys.Where (name ∷ []) = origin_at name
 action_at keys.Where ws = Err BadWords
+action_at keys.Snapshot (name ∷ []) = snapshot_at name
+action_at keys.Snapshot ws = Err BadWords
+action_at keys.Keep (new ∷ old ∷ rules) = keep_at new old rules
+action_at keys.Keep ws = Err BadWords
+action_at keys.Stats (name ∷ key ∷ mode ∷ most ∷ []) = stats_at name key mode most
+action_at keys.Stats ws = Err BadWords
 action_at keys.Heap [] = Ok heap
 action_at keys.Heap ws = Err BadWords
 action_at keys.Refuse (side ∷ number ∷ []) = refuse_at side number

@@ -4,11 +4,12 @@ use Rattle.std.specs.Prelude.{[], ◌∷◌, ◌++◌, length, Result, Ok, Err}
 use Rattle.std.specs.List.{list_all, list_any, slice_split}
 use Rattle.std.specs.Str.{bytes_eq}
 use Rattle.mem_base.specs.Name.{Name}
-use Rattle.mem_base.specs.declared.limits.TheConstants.{MAX_OPS, MAX_PICKS, MAX_REPORTS, MAX_TRACKS}
+use Rattle.mem_base.specs.declared.limits.TheConstants.{MAX_OPS, MAX_PICKS, MAX_REPORTS, MAX_SNAPSHOTS, MAX_TRACKS}
 use Rattle.trace_model.specs.Operands.{◌>>=◌, is_between, name_at, times_at}
 use Rattle.trace_model.specs.Plain.{Action, PlainTrack, PlainTrace, keywords, keyword_among, is_report, action_at}
-use Rattle.trace_model.specs.Plain.{depth, has_frame, keeps_few}
+use Rattle.trace_model.specs.Plain.{depth, has_few_rules, has_frame, keeps_few}
 use Rattle.trace_model.specs.Spelling.{blank, line_end, head_text, action_count, report_count, pick_count, header}
+use Rattle.trace_model.specs.Spelling.{snapshot_names}
 use Rattle.trace_model.specs.declared.cause.TraceCause.{TraceCause}
 use Rattle.trace_model.specs.declared.cause.TraceCause.TheVariants.{BadEnd, BadHeader, BadByte, UnknownWord}
 use Rattle.trace_model.specs.declared.cause.TraceCause.TheVariants.{Misplaced, BadWords, NoFrame, SameTrack}
@@ -68,9 +69,12 @@ open_frames [] = 0
 open_frames (t ∷ []) = depth t.actions
 open_frames (t ∷ u ∷ ts) = open_frames (u ∷ ts)
 
--- there is room for one more operation, and for one that prints more than a reply where this is one
+-- there is room for one more operation, for one that prints more than a reply where this is one, and for the name of
+-- the snapshot that it writes, and it has no more rules than it may have
 abbrev pub has_room : PlainTrace → Action → Bool
-has_room t a = nat_lt (action_count t.tracks) MAX_OPS && (not (is_report a) || nat_lt (report_count t.tracks) MAX_REPORTS)
+has_room t a =
+    nat_lt (action_count t.tracks) MAX_OPS && (not (is_report a) || nat_lt (report_count t.tracks) MAX_REPORTS)
+    && nat_le (length (snapshot_names (with_action t.tracks a))) MAX_SNAPSHOTS && has_few_rules a
 
 -- the trace with one more operation of its last track, where the frame that it speaks of is there, and then room
 abbrev pub add : PlainTrace → Action → Result PlainTrace TraceCause

@@ -2,12 +2,14 @@
 use Rattle.std.specs.Prelude.{ℕ, ◌<◌, ◌≤◌, if◌then◌else◌, List, [], ◌∷◌, ◌++◌, length, map, slice_get, sum_by}
 use Rattle.std.specs.Prelude.{unwrap_or, codes, decimal, Option, Some, None, IsTrue}
 use Rattle.std.specs.List.{AllByRecursion, flat_map, join_with_byte}
+use Rattle.std.specs.Option.{option_to_list}
 use Rattle.mem_base.specs.Name.{Name}
 use Rattle.mem_base.specs.Texts.{IsDistinct}
-use Rattle.mem_base.specs.declared.limits.TheConstants.{MAX_OPS, MAX_PICKS, MAX_REPORTS, MAX_TRACKS}
+use Rattle.mem_base.specs.declared.limits.TheConstants.{MAX_OPS, MAX_PICKS, MAX_REPORTS, MAX_SNAPSHOTS, MAX_TRACKS}
 use Rattle.trace_model.specs.Operands.{is_name}
 use Rattle.trace_model.specs.Plain.{Action, PlainTrack, PlainTrace, keyword_text, keyword_of, operands_of, is_report}
-use Rattle.trace_model.specs.Plain.{Fits, KeepFrames}
+use Rattle.trace_model.specs.Plain.{Fits, KeepFrames, has_few_rules, written_by}
+use Rattle.trace_model.specs.Table.{firsts}
 use Rattle.trace_model.specs.declared.keyword.Keyword.{Keyword}
 use Rattle.trace_model.specs.declared.keyword.Head.{Head}
 use Rattle.trace_model.specs.declared.keyword.Head.TheVariants as heads
@@ -83,6 +85,7 @@ pub record FitsTrack (t : PlainTrack) : Type 0 where
   pub name : IsTrue (is_name t.name)
   pub actions : AllByRecursion Fits t.actions
   pub frames : KeepFrames 0 t.actions
+  pub rules : AllByRecursion (λ a. IsTrue (has_few_rules a)) t.actions
 
 -- how many operations there are over all tracks
 abbrev pub action_count : List PlainTrack → ℕ
@@ -96,6 +99,14 @@ reports_in actions = sum_by (λ a. if is_report a then 1 else 0) actions
 abbrev pub report_count : List PlainTrack → ℕ
 report_count tracks = sum_by (λ t. reports_in t.actions) tracks
 
+-- the names of the snapshots that operations write, in order
+abbrev pub written_in : List Action → List Name
+written_in actions = flat_map (λ a. option_to_list (written_by a)) actions
+
+-- the same over all tracks, each name once
+abbrev pub snapshot_names : List PlainTrack → List Name
+snapshot_names tracks = firsts (flat_map (λ t. written_in t.actions) tracks)
+
 -- how many picks there are, each as often as it says
 abbrev pub pick_count : List (ℕ × ℕ) → ℕ
 pick_count picks = sum_by (λ p. p.1) picks
@@ -104,12 +115,13 @@ pick_count picks = sum_by (λ p. p.1) picks
 abbrev pub FitsPick : List PlainTrack → ℕ × ℕ → Type 0
 FitsPick tracks pick = (pick.0 < length tracks) × (1 ≤ pick.1)
 
--- there are not too many tracks, operations and picks, no two tracks have one name, and each part has a spelling
+-- there are not too many tracks, operations, snapshots and picks, no two tracks have one name, and each part has a spelling
 pub record IsWellFormed (t : PlainTrace) : Type 0 where
   pub tracks : length t.tracks ≤ MAX_TRACKS
   pub distinct : IsDistinct (names_of t.tracks)
   pub few : action_count t.tracks ≤ MAX_OPS
   pub reports : report_count t.tracks ≤ MAX_REPORTS
+  pub snapshots : length (snapshot_names t.tracks) ≤ MAX_SNAPSHOTS
   pub fits : AllByRecursion FitsTrack t.tracks
   pub picks : AllByRecursion (FitsPick t.tracks) t.picks
   pub picked : pick_count t.picks ≤ MAX_PICKS

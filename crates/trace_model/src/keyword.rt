@@ -1,17 +1,18 @@
 //! What a line begins with, a track, a pick or an operation, and what is said of each operation once: its
-//! keyword, the name of the block that it works on, and what it does to the frames of its track. A keyword
-//! is spelt in one table, [`Keyword::word`], which reading, spelling and reports use; [`Head::with_letter`]
-//! has the heads by their first letters. An operation that no trace may have yet has no keyword.
+//! keyword, the name of the block that it works on, the name of the snapshot that it writes, and what it does
+//! to the frames of its track. A keyword is spelt in one table, [`Keyword::word`], which reading, spelling and
+//! reports use; [`Head::with_letter`] has the heads by their first letters. An operation that no trace may
+//! have yet has no keyword.
 ghost use Rattle.std.specs.Prelude.{◌≡◌, ◌<◌, ◌≤◌, ◌∷◌, ℕ, List, IfSome};
 ghost use Rattle.std.specs.Option.{option_map};
 ghost use Rattle.mem_base.specs.Name.{Name};
 ghost use Rattle.mem_base.specs.declared.limits.TheConstants.{MAX_FRAMES};
 ghost use Rattle.trace_model.specs.Plain.{action_of, keyword_of, keyword_text, name_of, prints_more, text_at};
-ghost use Rattle.trace_model.specs.Plain.{text_of, needs_frame, depth_after, IsKnownAmong};
+ghost use Rattle.trace_model.specs.Plain.{needs_frame, depth_after, writes, IsKnownAmong};
 ghost use Rattle.trace_model.specs.Reading.{head_among, head_at};
 ghost use Rattle.trace_model.specs.Spelling.{head_text};
 
-use mem_base::{Op, TextId};
+use mem_base::{Op, Rule, TextId};
 
 /// The operations that a trace may have.
 #[derive(Clone, Copy, Debug, PartialEq, Eq)]
@@ -35,6 +36,9 @@ pub enum Keyword {
     Mark,
     Unmark,
     Where,
+    Snapshot,
+    Keep,
+    Stats,
     Heap,
     Refuse,
 }
@@ -73,6 +77,9 @@ impl Keyword {
             Keyword::Mark => "mark",
             Keyword::Unmark => "unmark",
             Keyword::Where => "where",
+            Keyword::Snapshot => "snapshot",
+            Keyword::Keep => "keep",
+            Keyword::Stats => "stats",
             Keyword::Heap => "heap",
             Keyword::Refuse => "refuse",
         }
@@ -84,7 +91,8 @@ impl Keyword {
         ensures { result ≡ prints_more self }
     {
         match self {
-            Keyword::Heap | Keyword::Where => true,
+            Keyword::Heap | Keyword::Where | Keyword::Snapshot | Keyword::Keep | Keyword::Stats =>
+                true,
             Keyword::Acquire
             | Keyword::Release
             | Keyword::Malloc
@@ -133,11 +141,10 @@ impl Keyword {
             Op::Origin(_) => Some(Keyword::Where),
             Op::Heap => Some(Keyword::Heap),
             Op::Refuse(_, _) => Some(Keyword::Refuse),
-            Op::Snapshot(_)
-            | Op::Keep(_, _, _)
-            | Op::Stats(_, _, _, _)
-            | Op::Compare(_, _, _, _, _)
-            | Op::Dump(_) => None,
+            Op::Snapshot(_) => Some(Keyword::Snapshot),
+            Op::Keep(_, _, _) => Some(Keyword::Keep),
+            Op::Stats(_, _, _, _) => Some(Keyword::Stats),
+            Op::Compare(_, _, _, _, _) | Op::Dump(_) => None,
         }
     }
 }
@@ -157,6 +164,7 @@ impl Head {
             ],
             b'f' => &[Head::Op(Keyword::Free)],
             b'h' => &[Head::Op(Keyword::Heap)],
+            b'k' => &[Head::Op(Keyword::Keep)],
             b'l' => &[Head::Op(Keyword::Line)],
             b'm' => &[Head::Op(Keyword::Malloc), Head::Op(Keyword::Mark)],
             b'p' => &[Head::Pick, Head::Op(Keyword::Poke), Head::Op(Keyword::Peek)],
@@ -167,7 +175,12 @@ impl Head {
                 Head::Op(Keyword::ResetPeak),
                 Head::Op(Keyword::Refuse),
             ],
-            b's' => &[Head::Op(Keyword::Start), Head::Op(Keyword::Stop)],
+            b's' => &[
+                Head::Op(Keyword::Start),
+                Head::Op(Keyword::Stop),
+                Head::Op(Keyword::Snapshot),
+                Head::Op(Keyword::Stats),
+            ],
             b't' => &[Head::Track, Head::Op(Keyword::Traced)],
             b'u' => &[Head::Op(Keyword::Unmark)],
             b'w' => &[Head::Op(Keyword::Where)],
@@ -223,26 +236,25 @@ pub fn name_of(op: &Op) -> Option<TextId>
     }
 }
 
-/// The number of the text that an operation says, where it says one: the name of the block that it works
-/// on, or the file of a call.
-pub fn text_of(op: &Op) -> Option<TextId>
-    ensures text { (texts : List Name)
-        → option_map (text_at texts) result ≡ text_of (action_of texts op.now) }
-    ensures known { (texts : ℕ) → IsKnownAmong texts op.now → IfSome result (λ id. id.0 < texts) }
+/// The number of the name of the snapshot that an operation writes, and the rules by which it keeps traces of
+/// another one.
+pub fn writes(op: &Op) -> Option<(TextId, &[Rule])>
+    ensures said { (texts : List Name)
+        → option_map (λ w. (text_at texts w.0, w.1.now)) result ≡ writes (action_of texts op.now) }
+    ensures known { (texts : ℕ) → IsKnownAmong texts op.now → IfSome result (λ w. w.0.0 < texts) }
 {
     match op {
-        Op::Malloc(_, name, _)
-        | Op::Calloc(_, name, _, _)
-        | Op::Realloc(_, name, _)
-        | Op::Free(_, name)
-        | Op::Poke(name, _, _)
-        | Op::Peek(name, _, _)
-        | Op::Origin(name)
-        | Op::Enter(name, _) => Some(*name),
+        Op::Snapshot(name) => Some((*name, &[])),
+        Op::Keep(name, _, rules) => Some((*name, rules.as_slice())),
         Op::Acquire
         | Op::Release
-        | Op::Heap
-        | Op::Refuse(_, _)
+        | Op::Malloc(_, _, _)
+        | Op::Calloc(_, _, _, _)
+        | Op::Realloc(_, _, _)
+        | Op::Free(_, _)
+        | Op::Poke(_, _, _)
+        | Op::Peek(_, _, _)
+        | Op::Enter(_, _)
         | Op::Line(_)
         | Op::Leave
         | Op::Start(_)
@@ -252,11 +264,12 @@ pub fn text_of(op: &Op) -> Option<TextId>
         | Op::Traced
         | Op::Mark(_, _, _)
         | Op::Unmark(_, _)
-        | Op::Snapshot(_)
-        | Op::Keep(_, _, _)
+        | Op::Origin(_)
         | Op::Stats(_, _, _, _)
         | Op::Compare(_, _, _, _, _)
-        | Op::Dump(_) => None,
+        | Op::Dump(_)
+        | Op::Heap
+        | Op::Refuse(_, _) => None,
     }
 }
 

@@ -27,8 +27,15 @@
 //! | `mark NUM NUM NUM` | domain, from 1 to 4,294,967,295, number, size |
 //! | `unmark NUM NUM` | domain, number |
 //! | `where NAME` | block |
-//! | `heap` | none; with `where`, at most 1,024 of them |
+//! | `snapshot NAME` | the name that the snapshot gets |
+//! | `keep NAME NAME RULES` | the name that the snapshot gets, the one that it is kept from, and 0 to 16 rules |
+//! | `stats NAME KEY MODE NUM` | snapshot, `filename`, `lineno` or `traceback`, `plain` or `cumulative`, 1 to 1,000,000 lines |
+//! | `heap` | none; with `where`, `snapshot`, `keep` and `stats`, at most 1,024 of them |
 //! | `refuse SIDE NUM` | `arena` or `raw`, and which request of that source is refused, 1 (the next one) to 1,000,000 |
+//!
+//! `snapshot` and `keep` write at most 16 names of snapshots. A rule is one word: `in,SCOPE,LINE,DOMAIN,PATTERN` or
+//! `ex,SCOPE,LINE,DOMAIN,PATTERN`, with `top` or `all`, a number or `*` for line and domain, and a pattern of 1 to 255
+//! bytes, commas allowed; or `in-domain,DOMAIN` or `ex-domain,DOMAIN`. `traceback` goes with `plain` alone.
 #![tactic(auto)]
 
 mod cause;
@@ -36,5 +43,5 @@ mod keyword;
 mod laws;
 
 pub use cause::TraceCause;
-pub use keyword::{Head, Keyword, depth_after, name_of, needs_frame, text_of};
+pub use keyword::{Head, Keyword, depth_after, name_of, needs_frame, writes};
 pub use laws::{read_where_spelt, spelt_once};

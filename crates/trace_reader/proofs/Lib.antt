@@ -4,4 +4,6 @@ mod Growth
 mod HexPairs
 mod LineSteps
 mod Parts
+mod RuleSteps
+mod SnapshotSteps
 mod TrackSteps

@@ -16,16 +16,17 @@ use Rattle.mem_base.specs.Name.{Name}
 use Rattle.mem_base.specs.Texts.{with_text}
 use Rattle.trace_model.specs.Operands.{◌>>=◌}
 use Rattle.trace_model.specs.Plain.{PlainTrack, PlainTrace, plain, text_at, tracks_of, picks_of}
-use Rattle.trace_model.specs.Spelling.{action_count, report_count, pick_count}
+use Rattle.trace_model.specs.Spelling.{action_count, report_count, pick_count, snapshot_names}
 use Rattle.trace_model.specs.Known.{IsKnown}
 use Rattle.trace_model.specs.Table.{table_of}
 use Rattle.trace_model.specs.Reading.{start, with_track, open_frames, index_of, pick}
 use Rattle.trace_model.specs.declared.cause.TraceCause.{TraceCause}
 use Rattle.trace_model.specs.declared.cause.TraceCause.TheVariants.{NoTrack, SameTrack, TooMany}
 use Rattle.trace_model.proofs.CallerLemmas.{all_push, count_of_new, reports_of_new, open_with_last, table_with_track}
+use Rattle.trace_model.proofs.CallerLemmas.{snapshots_of_new}
 use Rattle.trace_reader.specs.Progress.{Extends, IsKnownTrack, IsKnownSoFar}
 use Rattle.trace_reader.specs.declared.progress.Progress.{Progress}
-use Rattle.trace_reader.proofs.Growth.{tracks_stay, tracks_still_known, few_more}
+use Rattle.trace_reader.proofs.Growth.{tracks_stay, tracks_still_known, few_more, still_among, texts_stay}
 
 -- ---- the track of a name
 
@@ -114,7 +115,7 @@ module _ (p : Progress) (name : Name) (known : IsKnownSoFar p) where
       abbrev begun : Progress
       begun = record {
         trace = record { texts = news; tracks = ts; picks = p.trace.picks };
-        counts = record { ops = p.counts.ops; reports = p.counts.reports; picks = p.counts.picks; frames = 0 };
+        counts = record p.counts { frames = 0 };
       }
 
       tracks_then : tracks_of news ts ≡ t.tracks ++ record { name = name; actions = [] } ∷ []
@@ -133,6 +134,7 @@ module _ (p : Progress) (name : Name) (known : IsKnownSoFar p) where
           record {
             tracks = subst (AllByRecursion (IsKnownTrack news)) (sym pushed)
                 (all_push (IsKnownTrack news) p.trace.tracks (record { name = id; ops = [] }) (tracks_still_known p.trace.texts news p.trace.tracks grows known.tracks) (record { name = there; ops = tt }));
+            snapshots = still_among p.trace.texts news p.counts.snapshots grows known.snapshots;
             few = omega (arith, longer, room);
             table =
                 more ∙ ap (λ (l : List Name). with_text l name) known.table
@@ -143,10 +145,14 @@ module _ (p : Progress) (name : Name) (known : IsKnownSoFar p) where
               reports = known.counts.reports ∙ sym (reports_of_new t.tracks name) ∙ ap report_count (sym tracks_then);
               picks = known.counts.picks;
               frames = sym (open_with_last t.tracks (record { name = name; actions = [] })) ∙ ap open_frames (sym tracks_then);
+              snapshots = texts_stay p.trace.texts news p.counts.snapshots grows known.snapshots
+                  ∙ known.counts.snapshots ∙ sym (snapshots_of_new t.tracks name)
+                  ∙ ap snapshot_names (sym tracks_then);
             };
             few_ops = known.few_ops;
             few_picks = known.few_picks;
             few_frames = omega arith;
+            few_snapshots = known.few_snapshots;
           }
 
 -- ---- picks of a track
@@ -161,7 +167,10 @@ module _ (p : Progress) (track times : ℕ) (known : IsKnownSoFar p) where
 
   module _ (few : p.counts.picks + times ≤ MAX_PICKS) (picks : List Pick) (pushed : picks ≡ p.trace.picks ++ record { track = track; times = times } ∷ []) where
     abbrev picked : Progress
-    picked = record { trace = record { texts = p.trace.texts; tracks = p.trace.tracks; picks = picks }; counts = record { ops = p.counts.ops; reports = p.counts.reports; picks = p.counts.picks + times; frames = p.counts.frames } }
+    picked = record {
+      trace = record { texts = p.trace.texts; tracks = p.trace.tracks; picks = picks };
+      counts = record p.counts { picks = p.counts.picks + times };
+    }
 
     picks_then : picks_of picks ≡ before.picks ++ (track, times) ∷ []
     picks_then = ap picks_of pushed ∙ map-append _ p.trace.picks (record { track = track; times = times } ∷ [])
@@ -174,6 +183,7 @@ module _ (p : Progress) (track times : ℕ) (known : IsKnownSoFar p) where
     pub pick_known : IsKnownSoFar picked
     pick_known = record {
       tracks = known.tracks;
+      snapshots = known.snapshots;
       few = known.few;
       table = known.table;
       texts = known.texts;
@@ -182,8 +192,10 @@ module _ (p : Progress) (track times : ℕ) (known : IsKnownSoFar p) where
         reports = known.counts.reports;
         picks = omega (arith, known.counts.picks, ap pick_count picks_then, sum_by-append (λ (q : ℕ × ℕ). q.1) before.picks ((track, times) ∷ []));
         frames = known.counts.frames;
+        snapshots = known.counts.snapshots;
       };
       few_ops = known.few_ops;
       few_picks = few;
       few_frames = known.few_frames;
+      few_snapshots = known.few_snapshots;
     }

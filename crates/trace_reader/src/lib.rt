@@ -5,11 +5,13 @@
 //! table. What lines mean, and in which order their faults count, stands in `trace_model`.
 #![tactic(auto)]
 
+mod counts;
 mod error;
 mod lines;
 mod operands;
 mod operations;
 mod progress;
+mod rules;
 mod words;
 
 pub use error::TraceError;

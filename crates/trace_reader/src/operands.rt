@@ -7,7 +7,8 @@ ghost use Rattle.mem_base.specs.Offset.{IsOffset};
 ghost use Rattle.trace_model.specs.Operands.{is_between, is_file_byte, is_name_byte, digits_from, number_at};
 ghost use Rattle.trace_model.specs.Operands.{offset_at};
 ghost use Rattle.trace_model.specs.Operands.{forward_at, backward_at, number_in, count_at, refusal_at};
-ghost use Rattle.trace_model.specs.Operands.{line_number_at, limit_at, domain_at, file_at};
+ghost use Rattle.trace_model.specs.Operands.{line_number_at, limit_at, domain_at, is_file, file_at};
+ghost use Rattle.trace_model.specs.Operands.{key_at, mode_at, most_at};
 ghost use Rattle.trace_model.specs.Operands.{times_at, name_at, letter_at, side_at, hex_from, hex_at};
 ghost use Rattle.trace_model.specs.Operands.{digit_of};
 ghost use Rattle.trace_model.specs.Reading.{head_at};
@@ -16,9 +17,9 @@ ghost use Rattle.trace_reader.specs.Answers.{Gives};
 use crate::error::LineError;
 use crate::words::is_sign;
 use mem_base::limits::{
-    MAX_FILE, MAX_FRAME_LIMIT, MAX_LINE, MAX_NAME, MAX_PICKS, MAX_REACH, MAX_REFUSAL,
+    MAX_FILE, MAX_FRAME_LIMIT, MAX_LINE, MAX_LINES, MAX_NAME, MAX_PICKS, MAX_REACH, MAX_REFUSAL,
 };
-use mem_base::{Letter, List, Side};
+use mem_base::{KeyKind, Letter, List, Side};
 use std::alloc::Global;
 use trace_model::{Head, TraceCause};
 
@@ -109,9 +110,9 @@ pub fn offset(word: &[u8]) -> Result<i64, TraceCause>
     }
 }
 
-// A number from `least` to `most`.
+/// A number from `least` to `most`.
 #[tactic(auto, unfolding(trace_model::specs::Operands::number_in))]
-fn number_in(word: &[u8], least: u64, most: u64) -> Result<u64, TraceCause>
+pub fn number_in(word: &[u8], least: u64, most: u64) -> Result<u64, TraceCause>
     ensures value { result ≡ number_in least most word.now }
     ensures range { IfOk result (λ n. (least ≤ n) × (n ≤ most)) }
 {
@@ -153,6 +154,15 @@ pub fn limit(word: &[u8]) -> Result<u32, TraceCause>
     ensures range { IfOk result (λ n. (1 ≤ n) × (n ≤ MAX_FRAME_LIMIT)) }
 {
     let value = number_in(word, 1, MAX_FRAME_LIMIT as u64)?;
+    Ok(value as u32)
+}
+
+/// How many lines of statistics are printed at most.
+pub fn most(word: &[u8]) -> Result<u32, TraceCause>
+    ensures value { result ≡ most_at word.now }
+    ensures range { IfOk result (λ n. (1 ≤ n) × (n ≤ MAX_LINES)) }
+{
+    let value = number_in(word, 1, MAX_LINES as u64)?;
     Ok(value as u32)
 }
 
@@ -207,14 +217,18 @@ fn has_signs(word: &[u8]) -> bool
     word.iter().all(|b| is_sign(*b))
 }
 
+/// Whether the word may name a file, or be a pattern of such names.
+pub fn is_file(word: &[u8]) -> bool
+    ensures { result ≡ is_file word.now }
+{
+    !word.is_empty() && word.len() <= MAX_FILE && has_signs(word)
+}
+
 /// Whether the word is the name of a file.
 pub fn file(word: &[u8]) -> Result<(), TraceCause>
     ensures { result ≡ file_at word.now }
 {
-    if word.is_empty() || word.len() > MAX_FILE {
-        return Err(TraceCause::BadName);
-    }
-    if !has_signs(word) {
+    if !is_file(word) {
         return Err(TraceCause::BadName);
     }
     Ok(())
@@ -247,6 +261,39 @@ pub fn side(word: &[u8]) -> Result<Side, TraceCause>
         Ok(Side::Raw)
     } else {
         Err(TraceCause::UnknownWord)
+    }
+}
+
+/// By what statistics are grouped.
+#[tactic(auto, unfolding(trace_model::specs::Operands::key_at))]
+pub fn key(word: &[u8]) -> Result<KeyKind, TraceCause>
+    ensures { result ≡ key_at word.now }
+{
+    if word == b"filename".as_slice() {
+        Ok(KeyKind::Filename)
+    } else if word == b"lineno".as_slice() {
+        Ok(KeyKind::Lineno)
+    } else if word == b"traceback".as_slice() {
+        Ok(KeyKind::Traceback)
+    } else {
+        Err(TraceCause::UnknownWord)
+    }
+}
+
+/// Whether statistics by that key count each kept frame of a trace, and not the most recent one alone.
+#[tactic(auto, unfolding(trace_model::specs::Operands::mode_at))]
+pub fn mode(key: KeyKind, word: &[u8]) -> Result<bool, TraceCause>
+    ensures { result ≡ mode_at key word.now }
+{
+    if word == b"plain".as_slice() {
+        return Ok(false);
+    }
+    if word != b"cumulative".as_slice() {
+        return Err(TraceCause::UnknownWord);
+    }
+    match key {
+        KeyKind::Filename | KeyKind::Lineno => Ok(true),
+        KeyKind::Traceback => Err(TraceCause::BadRange),
     }
 }
 

@@ -1,23 +1,26 @@
 //! Operations, read from the words of their lines. The operands are read from left to right, then what
-//! they say together is checked, and the text that they name, of a block or a file, goes into the table
-//! last.
-ghost use Rattle.std.specs.Prelude.{◌≡◌, ◌-◌, ◌<◌, ◌^◌, length, map, IfOk, OnOk, slice_get, Some, None, Ok, Err};
-ghost use Rattle.std.specs.Prelude.{if◌then◌else◌};
+//! they say together is checked, and the texts that they name go into the table last: the name of a block
+//! or a snapshot, or a file. Only a line that keeps traces names two.
+ghost use Rattle.std.specs.Prelude.{◌≡◌, ◌+◌, ◌-◌, ◌<◌, ◌≤◌, ◌^◌, [], length, map, IfOk, OnOk, slice_get};
+ghost use Rattle.std.specs.Prelude.{Some, Ok, Err, if◌then◌else◌};
 ghost use Rattle.mem_base.specs.Name.{Name};
 ghost use Rattle.mem_base.specs.Texts.{with_text};
 ghost use Rattle.trace_model.specs.Operands.{is_forged};
-ghost use Rattle.trace_model.specs.Plain.{action_of, text_of, malloc_at, calloc_at, realloc_at, free_at};
+ghost use Rattle.trace_model.specs.Plain.{action_of, says, malloc_at, calloc_at, realloc_at, free_at};
 ghost use Rattle.trace_model.specs.Plain.{poke_at, peek_at, refuse_at, enter_at, go_to_at, start_tracing_at};
-ghost use Rattle.trace_model.specs.Plain.{mark_at, unmark_at, origin_at, action_at};
+ghost use Rattle.trace_model.specs.Plain.{mark_at, unmark_at, origin_at, snapshot_at, keep_at};
+ghost use Rattle.trace_model.specs.Plain.{stats_at, action_at};
 ghost use Rattle.trace_model.specs.Known.{IsKnown, IsKnownOp};
 ghost use Rattle.trace_model.specs.declared.cause.TraceCause.TheVariants.{ForgedLetter};
 ghost use Rattle.trace_reader.specs.Answers.{Gives};
-ghost use Rattle.trace_reader.specs.Progress.{AddsText, Extends};
+ghost use Rattle.trace_reader.specs.Progress.{AddsTexts, Extends};
 
 use crate::error::LineError;
 use crate::operands::{
-    count, domain, file, hex, letter, limit, line_number, name, number, offset, refusal, side,
+    count, domain, file, hex, key, letter, limit, line_number, mode, most, name, number, offset,
+    refusal, side,
 };
+use crate::rules::rules;
 use mem_base::{List, Op, TextId, Texts};
 use std::alloc::{AllocError, Global};
 use trace_model::{Keyword, TraceCause};
@@ -30,6 +33,7 @@ pub fn intern(texts: &mut Texts, name: &[u8]) -> Result<TextId, AllocError>
     ensures number { IfOk result (λ id. slice_get texts.new id.0 ≡ Some name.now) }
     ensures table { OnOk result (texts.new ≡ with_text texts.old name.now) }
     ensures known { IfOk result (IsKnown texts.new) }
+    ensures one { length texts.new ≤ length texts.old + 1 }
 {
     texts.intern(name)
 }
@@ -39,7 +43,7 @@ fn malloc(texts: &mut Texts, domain: &[u8], block: &[u8], size: &[u8]) -> Result
     requires { length texts.old < 2 ^ 32 - 1 }
     ensures grows { Extends texts.old texts.new }
     ensures op { Gives (action_of texts.new) result (malloc_at domain.now block.now size.now) }
-    ensures table { IfOk result (AddsText texts.old texts.new) }
+    ensures table { IfOk result (AddsTexts texts.old texts.new) }
     ensures known { IfOk result (IsKnownOp texts.new) }
 {
     let domain = letter(domain)?;
@@ -60,7 +64,7 @@ fn calloc(
     ensures grows { Extends texts.old texts.new }
     ensures op { Gives (action_of texts.new) result
         (calloc_at domain.now block.now elements.now size.now) }
-    ensures table { IfOk result (AddsText texts.old texts.new) }
+    ensures table { IfOk result (AddsTexts texts.old texts.new) }
     ensures known { IfOk result (IsKnownOp texts.new) }
 {
     let domain = letter(domain)?;
@@ -75,7 +79,7 @@ fn realloc(texts: &mut Texts, domain: &[u8], block: &[u8], size: &[u8]) -> Resul
     requires { length texts.old < 2 ^ 32 - 1 }
     ensures grows { Extends texts.old texts.new }
     ensures op { Gives (action_of texts.new) result (realloc_at domain.now block.now size.now) }
-    ensures table { IfOk result (AddsText texts.old texts.new) }
+    ensures table { IfOk result (AddsTexts texts.old texts.new) }
     ensures known { IfOk result (IsKnownOp texts.new) }
 {
     let domain = letter(domain)?;
@@ -89,7 +93,7 @@ fn free(texts: &mut Texts, domain: &[u8], block: &[u8]) -> Result<Op, LineError>
     requires { length texts.old < 2 ^ 32 - 1 }
     ensures grows { Extends texts.old texts.new }
     ensures op { Gives (action_of texts.new) result (free_at domain.now block.now) }
-    ensures table { IfOk result (AddsText texts.old texts.new) }
+    ensures table { IfOk result (AddsTexts texts.old texts.new) }
     ensures known { IfOk result (IsKnownOp texts.new) }
 {
     let domain = letter(domain)?;
@@ -118,7 +122,7 @@ fn poke(
     requires { length texts.old < 2 ^ 32 - 1 }
     ensures grows { Extends texts.old texts.new }
     ensures op { Gives (action_of texts.new) result (poke_at block.now at.now digits.now) }
-    ensures table { IfOk result (AddsText texts.old texts.new) }
+    ensures table { IfOk result (AddsTexts texts.old texts.new) }
     ensures known { IfOk result (IsKnownOp texts.new) }
 {
     name(block)?;
@@ -133,7 +137,7 @@ fn peek(texts: &mut Texts, block: &[u8], at: &[u8], size: &[u8]) -> Result<Op, L
     requires { length texts.old < 2 ^ 32 - 1 }
     ensures grows { Extends texts.old texts.new }
     ensures op { Gives (action_of texts.new) result (peek_at block.now at.now size.now) }
-    ensures table { IfOk result (AddsText texts.old texts.new) }
+    ensures table { IfOk result (AddsTexts texts.old texts.new) }
     ensures known { IfOk result (IsKnownOp texts.new) }
 {
     name(block)?;
@@ -146,7 +150,7 @@ fn peek(texts: &mut Texts, block: &[u8], at: &[u8], size: &[u8]) -> Result<Op, L
 #[tactic(auto, unfolding(trace_model::specs::Plain::refuse_at))]
 fn refuse(source: &[u8], request: &[u8]) -> Result<Op, LineError>
     ensures op { (texts : List Name) → Gives (action_of texts) result (refuse_at source.now request.now) }
-    ensures none { IfOk result (λ op. (texts : List Name) → text_of (action_of texts op) ≡ None) }
+    ensures none { IfOk result (λ op. (texts : List Name) → says (action_of texts op) ≡ []) }
     ensures known { IfOk result (λ op. (texts : List Name) → IsKnownOp texts op) }
 {
     let source = side(source)?;
@@ -158,7 +162,7 @@ fn enter(texts: &mut Texts, path: &[u8], line: &[u8]) -> Result<Op, LineError>
     requires { length texts.old < 2 ^ 32 - 1 }
     ensures grows { Extends texts.old texts.new }
     ensures op { Gives (action_of texts.new) result (enter_at path.now line.now) }
-    ensures table { IfOk result (AddsText texts.old texts.new) }
+    ensures table { IfOk result (AddsTexts texts.old texts.new) }
     ensures known { IfOk result (IsKnownOp texts.new) }
 {
     file(path)?;
@@ -169,7 +173,7 @@ fn enter(texts: &mut Texts, path: &[u8], line: &[u8]) -> Result<Op, LineError>
 #[tactic(auto, unfolding(trace_model::specs::Plain::go_to_at))]
 fn go_to(line: &[u8]) -> Result<Op, LineError>
     ensures op { (texts : List Name) → Gives (action_of texts) result (go_to_at line.now) }
-    ensures none { IfOk result (λ op. (texts : List Name) → text_of (action_of texts op) ≡ None) }
+    ensures none { IfOk result (λ op. (texts : List Name) → says (action_of texts op) ≡ []) }
     ensures known { IfOk result (λ op. (texts : List Name) → IsKnownOp texts op) }
 {
     Ok(Op::Line(line_number(line)?))
@@ -178,7 +182,7 @@ fn go_to(line: &[u8]) -> Result<Op, LineError>
 #[tactic(auto, unfolding(trace_model::specs::Plain::start_tracing_at))]
 fn start(frames: &[u8]) -> Result<Op, LineError>
     ensures op { (texts : List Name) → Gives (action_of texts) result (start_tracing_at frames.now) }
-    ensures none { IfOk result (λ op. (texts : List Name) → text_of (action_of texts op) ≡ None) }
+    ensures none { IfOk result (λ op. (texts : List Name) → says (action_of texts op) ≡ []) }
     ensures known { IfOk result (λ op. (texts : List Name) → IsKnownOp texts op) }
 {
     Ok(Op::Start(limit(frames)?))
@@ -187,7 +191,7 @@ fn start(frames: &[u8]) -> Result<Op, LineError>
 #[tactic(auto, unfolding(trace_model::specs::Plain::mark_at))]
 fn mark(space: &[u8], own: &[u8], size: &[u8]) -> Result<Op, LineError>
     ensures op { (texts : List Name) → Gives (action_of texts) result (mark_at space.now own.now size.now) }
-    ensures none { IfOk result (λ op. (texts : List Name) → text_of (action_of texts op) ≡ None) }
+    ensures none { IfOk result (λ op. (texts : List Name) → says (action_of texts op) ≡ []) }
     ensures known { IfOk result (λ op. (texts : List Name) → IsKnownOp texts op) }
 {
     let space = domain(space)?;
@@ -198,7 +202,7 @@ fn mark(space: &[u8], own: &[u8], size: &[u8]) -> Result<Op, LineError>
 #[tactic(auto, unfolding(trace_model::specs::Plain::unmark_at))]
 fn unmark(space: &[u8], own: &[u8]) -> Result<Op, LineError>
     ensures op { (texts : List Name) → Gives (action_of texts) result (unmark_at space.now own.now) }
-    ensures none { IfOk result (λ op. (texts : List Name) → text_of (action_of texts op) ≡ None) }
+    ensures none { IfOk result (λ op. (texts : List Name) → says (action_of texts op) ≡ []) }
     ensures known { IfOk result (λ op. (texts : List Name) → IsKnownOp texts op) }
 {
     let space = domain(space)?;
@@ -210,11 +214,66 @@ fn origin(texts: &mut Texts, block: &[u8]) -> Result<Op, LineError>
     requires { length texts.old < 2 ^ 32 - 1 }
     ensures grows { Extends texts.old texts.new }
     ensures op { Gives (action_of texts.new) result (origin_at block.now) }
-    ensures table { IfOk result (AddsText texts.old texts.new) }
+    ensures table { IfOk result (AddsTexts texts.old texts.new) }
     ensures known { IfOk result (IsKnownOp texts.new) }
 {
     name(block)?;
     Ok(Op::Origin(intern(texts, block)?))
+}
+
+#[tactic(auto, unfolding(trace_model::specs::Plain::snapshot_at))]
+fn snapshot(texts: &mut Texts, new: &[u8]) -> Result<Op, LineError>
+    requires { length texts.old < 2 ^ 32 - 1 }
+    ensures grows { Extends texts.old texts.new }
+    ensures op { Gives (action_of texts.new) result (snapshot_at new.now) }
+    ensures table { IfOk result (AddsTexts texts.old texts.new) }
+    ensures known { IfOk result (IsKnownOp texts.new) }
+{
+    name(new)?;
+    Ok(Op::Snapshot(intern(texts, new)?))
+}
+
+#[tactic(auto, unfolding(trace_model::specs::Plain::keep_at))]
+fn keep(
+    alloc: Global,
+    texts: &mut Texts,
+    new: &[u8],
+    old: &[u8],
+    words: &[&[u8]],
+) -> Result<Op, LineError>
+    requires { length texts.old < 2 ^ 32 - 2 }
+    ensures grows { Extends texts.old texts.new }
+    ensures op { Gives (action_of texts.new) result (keep_at new.now old.now (map (λ w. w.now) words.now)) }
+    ensures table { IfOk result (AddsTexts texts.old texts.new) }
+    ensures known { IfOk result (IsKnownOp texts.new) }
+{
+    name(new)?;
+    name(old)?;
+    let rules = rules(alloc, words)?;
+    let new = intern(texts, new)?;
+    let old = intern(texts, old)?;
+    Ok(Op::Keep(new, old, rules))
+}
+
+#[tactic(auto, unfolding(trace_model::specs::Plain::stats_at))]
+fn stats(
+    texts: &mut Texts,
+    snapshot: &[u8],
+    by: &[u8],
+    how: &[u8],
+    lines: &[u8],
+) -> Result<Op, LineError>
+    requires { length texts.old < 2 ^ 32 - 1 }
+    ensures grows { Extends texts.old texts.new }
+    ensures op { Gives (action_of texts.new) result (stats_at snapshot.now by.now how.now lines.now) }
+    ensures table { IfOk result (AddsTexts texts.old texts.new) }
+    ensures known { IfOk result (IsKnownOp texts.new) }
+{
+    name(snapshot)?;
+    let key = key(by)?;
+    let cumulative = mode(key, how)?;
+    let most = most(lines)?;
+    Ok(Op::Stats(intern(texts, snapshot)?, key, cumulative, most))
 }
 
 /// The operation that the words after the keyword name.
@@ -225,10 +284,10 @@ pub fn read_op(
     keyword: Keyword,
     words: &[&[u8]],
 ) -> Result<Op, LineError>
-    requires { length texts.old < 2 ^ 32 - 1 }
+    requires { length texts.old < 2 ^ 32 - 2 }
     ensures grows { Extends texts.old texts.new }
     ensures op { Gives (action_of texts.new) result (action_at keyword (map (λ w. w.now) words.now)) }
-    ensures table { IfOk result (AddsText texts.old texts.new) }
+    ensures table { IfOk result (AddsTexts texts.old texts.new) }
     ensures known { IfOk result (IsKnownOp texts.new) }
 {
     match (keyword, words) {
@@ -255,7 +314,11 @@ pub fn read_op(
         (Keyword::Mark, [space, own, size]) => mark(space, own, size),
         (Keyword::Unmark, [space, own]) => unmark(space, own),
         (Keyword::Where, [block]) => origin(texts, block),
-        // Another number of operands: of those that have none, one, two, three and four.
+        (Keyword::Snapshot, [new]) => snapshot(texts, new),
+        (Keyword::Keep, [new, old, words @ ..]) => keep(alloc, texts, new, old, words),
+        (Keyword::Stats, [name, key, mode, most]) => stats(texts, name, key, mode, most),
+        // Another number of operands: of those that have none, one, two, three and four, and of the one
+        // that has rules behind two.
         (
             Keyword::Acquire
             | Keyword::Release
@@ -267,7 +330,7 @@ pub fn read_op(
             | Keyword::Heap,
             _,
         ) => Err(LineError::Wrong(TraceCause::BadWords)),
-        (Keyword::Line | Keyword::Start | Keyword::Where, _) => {
+        (Keyword::Line | Keyword::Start | Keyword::Where | Keyword::Snapshot, _) => {
             Err(LineError::Wrong(TraceCause::BadWords))
         }
         (Keyword::Free | Keyword::Call | Keyword::Unmark | Keyword::Refuse, _) => {
@@ -275,6 +338,7 @@ pub fn read_op(
         }
         (Keyword::Malloc | Keyword::Realloc | Keyword::Poke | Keyword::Peek | Keyword::Mark, _) =>
             Err(LineError::Wrong(TraceCause::BadWords)),
-        (Keyword::Calloc, _) => Err(LineError::Wrong(TraceCause::BadWords)),
+        (Keyword::Calloc | Keyword::Stats, _) => Err(LineError::Wrong(TraceCause::BadWords)),
+        (Keyword::Keep, _) => Err(LineError::Wrong(TraceCause::BadWords)),
     }
 }

@@ -1,5 +1,4 @@
-//! What was read so far, one line more at a time: the trace, how many operations and picks it has, and how
-//! many frames its last track, so that no line is read twice to keep the limits.
+//! What was read so far, one line more at a time: the trace, and how much it has of what is limited.
 //!
 //! A line begins a track, is an operation of the last track, or picks a track. Its words are looked at in
 //! the order in which their faults count: the first word, its place among the lines, that no word is
@@ -8,76 +7,30 @@
 ghost use Rattle.std.specs.Prelude.{◌≡◌, ◌+◌, ◌<◌, ◌≤◌, ◌-◌, ◌^◌, length, map, IfOk, OnOk, Ok, Err, false};
 ghost use Rattle.std.specs.Prelude.{if◌then◌else◌};
 ghost use Rattle.std.specs.List.{list_any, AllByRecursion};
-ghost use Rattle.mem_base.specs.declared.limits.TheConstants.{MAX_FRAMES as most_frames, MAX_TRACKS as most_tracks};
-ghost use Rattle.trace_model.specs.Plain.{is_report, plain, tracks_of};
+ghost use Rattle.mem_base.specs.declared.limits.TheConstants.{MAX_TRACKS as most_tracks};
+ghost use Rattle.trace_model.specs.Plain.{plain, tracks_of};
 ghost use Rattle.trace_model.specs.Reading.{line_at, words_at, item_at, start, start_at, pick_at, index_of};
 ghost use Rattle.trace_model.specs.Reading.{is_empty, opening};
 ghost use Rattle.trace_model.specs.Reading as Reading;
 ghost use Rattle.trace_model.specs.declared.keyword.Head.TheVariants as heads;
 ghost use Rattle.trace_reader.specs.Answers.{Gives};
-ghost use Rattle.trace_reader.specs.Progress.{IsKnownSoFar, IsKnownTrack, bare, place_for, counts_with, with_op};
+ghost use Rattle.trace_reader.specs.Progress.{IsKnownSoFar, IsKnownTrack, with_op};
 
+use crate::counts::Counts;
 use crate::error::LineError;
 use crate::operands::{head, name, times};
 use crate::operations::{intern, read_op};
 use crate::words::cut;
-use mem_base::limits::{MAX_FRAMES, MAX_OPS, MAX_PICKS, MAX_REPORTS, MAX_TRACKS};
+use mem_base::limits::{MAX_PICKS, MAX_TRACKS};
 use mem_base::{List, Op, Pick, Texts, Trace, Track, TrackId};
 use std::alloc::{AllocError, Global};
-use trace_model::{Head, Keyword, TraceCause, depth_after, needs_frame};
-
-/// How much of what is limited a trace has.
-#[derive(Clone, Copy, Debug, Drop)]
-pub struct Counts {
-    /// The operations over all tracks.
-    pub ops: usize,
-    /// Those of them that print more than a reply.
-    pub reports: usize,
-    /// The picks, each as often as it says.
-    pub picks: u32,
-    /// The frames that the last track has.
-    pub frames: u32,
-}
+use trace_model::{Head, Keyword, TraceCause};
 
 /// What was read so far.
 #[derive(Drop)]
 pub struct Progress {
     pub trace: Trace,
     pub counts: Counts,
-}
-
-// Whether an operation prints more than a reply.
-fn is_report(op: &Op) -> bool
-    ensures { result ≡ is_report (bare op.now) }
-{
-    match Keyword::of(op) {
-        Some(keyword) => keyword.prints_more(),
-        None => false,
-    }
-}
-
-impl Counts {
-    // Counts one more operation, if it has the frame that it speaks of and there is room for it.
-    fn add_op(&mut self, op: &Op) -> Result<(), TraceCause>
-        requires { self.old.frames ≤ most_frames }
-        ensures room { result ≡ place_for self.old op.now }
-        ensures counts { OnOk result (self.new ≡ counts_with self.old op.now) }
-    {
-        if needs_frame(op) && self.frames == 0 {
-            return Err(TraceCause::NoFrame);
-        }
-        let report = is_report(op);
-        let frames = depth_after(self.frames, op);
-        if self.ops >= MAX_OPS || report && self.reports >= MAX_REPORTS || frames > MAX_FRAMES {
-            return Err(TraceCause::TooMany);
-        }
-        self.ops += 1;
-        if report {
-            self.reports += 1;
-        }
-        self.frames = frames;
-        Ok(())
-    }
 }
 
 // Adds an operation to the last track.
@@ -126,12 +79,7 @@ impl Progress {
                 tracks: List::new(alloc),
                 picks: List::new(alloc),
             },
-            counts: Counts {
-                ops: 0,
-                reports: 0,
-                picks: 0,
-                frames: 0,
-            },
+            counts: Counts::new(alloc),
         })
     }
 
@@ -262,7 +210,7 @@ impl Progress {
             (item_at (plain self.old.trace) (heads.Op keyword) (map (λ w. w.now) words.now)) }
     {
         let op = read_op(alloc, &mut self.trace.texts, keyword, words)?;
-        self.counts.add_op(&op)?;
+        self.counts.add_op(&self.trace.texts, &op)?;
         push_op(&mut self.trace.tracks, op)?;
         Ok(())
     }

@@ -29,8 +29,14 @@ keys_tell (keys.Block a) (keys.Block b) = (
   λ same. let number = (Decides-eqb a.0 b.0).0 same in λ i. keys.Block (record { 0 = number i }),
   λ e. (Decides-eqb a.0 b.0).1 (ap first_in e),
 )
-keys_tell (keys.Block a) (keys.Number e n) = (λ same. absurd (true≢false (sym same)), λ same. absurd (true≢false (ap is_block same)))
-keys_tell (keys.Number d m) (keys.Block b) = (λ same. absurd (true≢false (sym same)), λ same. absurd (true≢false (sym (ap is_block same))))
+keys_tell (keys.Block a) (keys.Number e n) = (
+  λ same. absurd (true≢false (sym same)),
+  λ same. absurd (true≢false (ap is_block same)),
+)
+keys_tell (keys.Number d m) (keys.Block b) = (
+  λ same. absurd (true≢false (sym same)),
+  λ same. absurd (true≢false (sym (ap is_block same))),
+)
 keys_tell (keys.Number d m) (keys.Number e n) = (
   λ same.
       let parts = both (d == e) (m == n) same in

@@ -1,2 +1,5 @@
 pub mod CallerLemmas
+mod RankLemmas
+mod RowLemmas
+mod Sorting
 mod TraceLemmas

@@ -1,5 +1,6 @@
 -- The bytes of all traces, and what one key's change makes of them.
-use Rattle.std.proofs.Common.{◌≡◌, ℕ, ◌-◌, ◌^◌, ◌<◌, ◌≤◌, [], ◌∷◌, IfNone, Option, Some, None, refl, sym, subst, arith, option_map, length}
+use Rattle.std.proofs.Common.{◌≡◌, ℕ, ◌-◌, ◌^◌, ◌<◌, ◌≤◌, [], ◌∷◌, IfNone, Option, Some, None, refl, sym, subst, arith}
+use Rattle.std.proofs.Common.{option_map, length}
 use Rattle.std.specs.HashMap.{HashMap, PutsEntry}
 use Rattle.std.specs.Map.{remove_entry, values_of}
 use Rattle.std.specs.List.Sorted.{IsPermutation}
@@ -24,14 +25,17 @@ size_within ts key = omega (arith, sum_by-remove_entry (λ t. t.size) (same_key 
 pub bytes_fit : (ts : Traces) → AreSmall ts → length ts < 2 ^ 63 → traced_bytes ts < 2 ^ 127
 bytes_fit ts small few = omega (arith, few, sum_by-le (λ t. t.size) (2 ^ 64 - 1) (values_of ts) small, length-values_of ts)
 
-pub small_put : {S : Type 0} (m n : HashMap TraceKey TraceOf S) (key : TraceKey) (of : TraceOf) (old : Option TraceOf) → PutsEntry same_key m n key of old → of.size ≤ 2 ^ 64 - 1
+pub small_put : {S : Type 0} (m n : HashMap TraceKey TraceOf S) (key : TraceKey) (of : TraceOf) (old : Option TraceOf)
+    → PutsEntry same_key m n key of old → of.size ≤ 2 ^ 64 - 1
     → AreSmall m.entries → AreSmall n.entries
 small_put m n key of None puts fits small =
-    All-map-IsPermutation (λ e. e.1) (λ t. t.size ≤ 2 ^ 64 - 1) ((key, of) ∷ m.entries) n.entries puts (All-cons (λ t. t.size ≤ 2 ^ 64 - 1) of (values_of m.entries) fits small)
+    All-map-IsPermutation (λ e. e.1) (λ t. t.size ≤ 2 ^ 64 - 1) ((key, of) ∷ m.entries) n.entries puts
+    (All-cons (λ t. t.size ≤ 2 ^ 64 - 1) of (values_of m.entries) fits small)
 small_put m n key of (Some t) puts fits small =
     subst AreSmall (sym puts) (All-values-set_value (same_key key) (λ t. t.size ≤ 2 ^ 64 - 1) m.entries of small fits)
 
-pub small_gone : (ts rest : Traces) (key : TraceKey) → IsPermutation (remove_entry (same_key key) ts) rest → AreSmall ts → AreSmall rest
+pub small_gone : (ts rest : Traces) (key : TraceKey) → IsPermutation (remove_entry (same_key key) ts) rest → AreSmall ts
+    → AreSmall rest
 small_gone ts rest key same small =
     All-map-IsPermutation (λ e. e.1) (λ t. t.size ≤ 2 ^ 64 - 1) (remove_entry (same_key key) ts) rest same
     (All-map-remove_entry (same_key key) (λ e. e.1) (λ t. t.size ≤ 2 ^ 64 - 1) ts small)

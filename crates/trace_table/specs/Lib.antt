@@ -1,2 +1,5 @@
 pub mod Traces
 pub mod Tracing
+pub mod Plain
+pub mod Ranks
+pub mod Rows

@@ -1,16 +1,20 @@
 -- What contracts see of a table of traces.
-use Rattle.std.specs.Prelude.{◌≡◌, ◌≤◌, ℕ, max, [], Option, None, IfNone}
+use Rattle.std.specs.Prelude.{◌≡◌, ◌≤◌, ◌<◌, ◌-◌, ◌^◌, ℕ, min, max, [], length, Option, None, IfNone}
 use Rattle.trace_table.specs.declared.key.TraceKey.{TraceKey}
 use Rattle.trace_table.specs.declared.key.TraceOf.{TraceOf}
 use Rattle.trace_table.specs.Traces.{Traces, AreSmall, Changes, trace_at, traced_bytes}
 
 -- how many frames a trace keeps, or that nothing is traced; the traces by their keys; the peak; and for how many
--- more traces there is memory
+-- more traces there is room
 pub record TracingView : Type 0 where
   pub limit : Option ℕ
   pub traces : Traces
   pub peak : ℕ
   pub spare : ℕ
+
+-- for how many more traces there are both memory and numbers: there are fewer than 2^32 traces
+abbrev pub room : (memory count : ℕ) → ℕ
+room memory count = min memory (2 ^ 32 - 1 - count)
 
 -- nothing is traced
 pub record IsIdle (t : TracingView) : Type 0 where
@@ -31,9 +35,11 @@ pub record ChangesOne (key : TraceKey) (of : Option TraceOf) (old new : TracingV
   pub changes : Changes key of old.traces new.traces
   pub peak : new.peak ≡ max old.peak (traced_bytes new.traces)
 
--- the sum is that of all sizes, the peak is not below it, and while nothing is traced there is nothing
+-- the sum is that of all sizes, the peak is not below it, the traces are few enough to be numbered, and while
+-- nothing is traced there is nothing
 pub record IsSummed (limit : Option ℕ) (ts : Traces) (bytes peak : ℕ) : Type 0 where
   pub sum : bytes ≡ traced_bytes ts
   pub below : bytes ≤ peak
   pub small : AreSmall ts
+  pub few : length ts < 2 ^ 32
   pub idle : IfNone limit ((ts ≡ []) × (peak ≡ 0))

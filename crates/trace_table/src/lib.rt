@@ -17,11 +17,13 @@
 #![tactic(auto)]
 
 mod key;
+mod ranks;
 mod snapshot;
 #[cfg(test)]
 mod tests;
 mod tracing;
 
 pub use key::{TraceKey, TraceOf};
+pub use ranks::Ranks;
 pub use snapshot::{Row, Snapshot};
 pub use tracing::{MarkError, Tracing};

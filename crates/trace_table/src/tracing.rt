@@ -1,20 +1,26 @@
 //! What is held while tracing.
-ghost use Rattle.std.specs.Prelude.{◌≡◌, ◌≤◌, ◌+◌, ◌↔◌, max, is_some, true, false, []};
+ghost use Rattle.std.specs.Prelude.{◌≡◌, ◌≤◌, ◌+◌, ◌↔◌, ℕ, max, is_some, true, false, List, [], length};
 ghost use Rattle.std.specs.Prelude.{Some, None, IfOk, IfErr, IfSome, IfNone, IsOk, OnOk, OnErr, IsErrOf};
-ghost use Rattle.std.specs.HashMap.{spare};
+ghost use Rattle.std.specs.HashMap.{hash_map_len, spare};
+ghost use Rattle.mem_base.specs.Texts.{IsDistinct};
 ghost use Rattle.mem_base.specs.declared.limits.TheConstants.{MAX_FRAME_LIMIT};
+ghost use Rattle.trace_table.specs.Plain.{IsKnownKey, IsTaken};
+ghost use Rattle.trace_table.specs.Ranks.{AreRanks};
 ghost use Rattle.trace_table.specs.Traces.{size_in, trace_at, traced_bytes, AreSmall, Changes};
 ghost use Rattle.trace_table.specs.Tracing.{ChangesOne, HoldsTheSame, IsIdle};
+ghost use Rattle.trace_table.specs.declared.key.TraceKey.{TraceKey};
 ghost use Rattle.trace_table.specs.declared.key.TraceKey.TheVariants as keys;
 ghost use Rattle.trace_table.specs.declared.tracing.MarkError.TheVariants as errors;
 
 use crate::key::{TraceKey, TraceOf};
-use mem_base::TextId;
+use crate::ranks::Ranks;
+use crate::snapshot::{Snapshot, rows_in_order};
+use mem_base::{List, TextId};
 use std::alloc::{AllocError, Global};
 use std::collections::HashMap;
 use std::marker::Model;
 
-/// Why a number was not marked.
+/// Why a number was not marked, or no snapshot taken.
 #[derive(Clone, Copy, Debug, PartialEq, Eq)]
 pub enum MarkError {
     NotTracing,
@@ -31,8 +37,8 @@ pub struct Tracing {
 }
 
 impl Model for Tracing {
-    ghost use Rattle.std.specs.HashMap.{spare};
-    ghost use Rattle.trace_table.specs.Tracing.{TracingView, IsSummed};
+    ghost use Rattle.std.specs.HashMap.{spare, hash_map_len};
+    ghost use Rattle.trace_table.specs.Tracing.{TracingView, IsSummed, room};
 
     ghost Value = { TracingView };
 
@@ -40,7 +46,7 @@ impl Model for Tracing {
       limit = t.limit;
       traces = t.traces.entries;
       peak = t.peak;
-      spare = spare t.traces;
+      spare = room (spare t.traces) (hash_map_len t.traces);
     } };
 
     ghost invariant = { λ t. IsSummed t.limit t.traces.entries t.bytes t.peak };
@@ -63,6 +69,7 @@ fn put(traces: &mut HashMap<TraceKey, TraceOf>, key: TraceKey, of: TraceOf) -> u
     ensures among { result ≤ traced_bytes traces.old.entries }
     ensures changes { Changes key (Some of) traces.old.entries traces.new.entries }
     ensures small { AreSmall traces.old.entries → AreSmall traces.new.entries }
+    ensures one { hash_map_len traces.new ≤ hash_map_len traces.old + 1 }
     ensures spare { spare traces.old ≤ spare traces.new + 1 }
 {
     match traces.insert(key, of) {
@@ -78,6 +85,7 @@ fn take_out(traces: &mut HashMap<TraceKey, TraceOf>, key: TraceKey) -> u64
     ensures nothing { traces.old.entries ≡ [] → traces.new.entries ≡ [] }
     ensures changes { Changes key None traces.old.entries traces.new.entries }
     ensures small { AreSmall traces.old.entries → AreSmall traces.new.entries }
+    ensures none { hash_map_len traces.new ≤ hash_map_len traces.old }
     ensures spare { spare traces.old ≤ spare traces.new }
 {
     size_of(traces.remove(&key))
@@ -168,11 +176,15 @@ impl Tracing {
         self.traces.get(&TraceKey::Block(name)).copied()
     }
 
-    /// Memory for one more trace. The error is that there was none.
+    /// Room for one more trace. The error is that there was no memory, or that there are 4,294,967,295 traces,
+    /// which no trace has operations for.
     pub fn reserve_one(&mut self) -> Result<(), AllocError>
         ensures same { HoldsTheSame self.old self.new }
         ensures spare { OnOk result (1 ≤ self.new.spare) }
     {
+        if self.traces.len() >= u32::MAX as usize {
+            return Err(AllocError);
+        }
         self.traces.reserve(1)
     }
 
@@ -245,5 +257,27 @@ impl Tracing {
         }
         self.take_away(TraceKey::Number(domain, number));
         Ok(())
+    }
+
+    /// The traces as they are now, in the order of their keys: those of blocks by the bytes of the blocks'
+    /// names, which `ranks` has as numbers, and then those of marked numbers. The error is that nothing is
+    /// traced, or that there was no memory.
+    pub fn snapshot(&self, alloc: Global, ranks: &Ranks) -> Result<Snapshot, MarkError>
+        requires { (key : TraceKey) → is_some (trace_at self.now.traces key) ≡ true
+            → IsKnownKey (length ranks.now) key }
+        ensures taken { IfOk result (λ s. (texts : List (List ℕ)) → IsDistinct texts
+            → AreRanks texts ranks.now → IsTaken texts self.now s) }
+        ensures not_tracing { IsErrOf result errors.NotTracing ↔ (self.now.limit ≡ None) }
+    {
+        let Some(limit) = self.limit else {
+            return Err(MarkError::NotTracing);
+        };
+        match rows_in_order(alloc, &self.traces, ranks) {
+            Ok(rows) => Ok(Snapshot {
+                limit,
+                rows: List::from_vec(rows),
+            }),
+            Err(_) => Err(MarkError::OutOfMemory),
+        }
     }
 }

@@ -1,4 +1,4 @@
-use Rattle.event_model.proofs.EffectLaws.{null_for, null_where}
+use Rattle.event_model.proofs.EventLaws.{null_for, null_where}
 use Rattle.event_model.proofs.null_exactly.Goals as goal
 
 pub returns : goal.returns

@@ -10,14 +10,21 @@ returns-clause-changes c = record {
   others = c.in-Ok.ensures.updates.2;
   bytes = omega (
     arith,
-    sum_by_puts_entry (λ t. t.size) same_key c.args.traces.now c.insert.new.self c.args.key c.args.of c.in-Ok.old c.in-Ok.ensures.old c.in-Ok.ensures.entries,
+    sum_by_puts_entry (λ t. t.size) same_key c.args.traces.now c.insert.new.self c.args.key c.args.of c.in-Ok.old
+        c.in-Ok.ensures.old c.in-Ok.ensures.entries,
     size_is c.in-Ok.old,
     ap size_in c.in-Ok.ensures.old,
   );
 }
 
 pub returns-clause-small : goal.returns-clause-small
-returns-clause-small c = small_put c.args.traces.now c.insert.new.self c.args.key c.args.of c.in-Ok.old c.in-Ok.ensures.entries (search rules)
+returns-clause-small c = small_put c.args.traces.now c.insert.new.self c.args.key c.args.of c.in-Ok.old
+    c.in-Ok.ensures.entries (search rules)
 
 pub returns-clause-among : goal.returns-clause-among
-returns-clause-among c = omega (arith, size_within c.args.traces.now.entries c.args.key, c.size_of.ensures, ap size_in c.in-Ok.ensures.old)
+returns-clause-among c = omega (
+  arith,
+  size_within c.args.traces.now.entries c.args.key,
+  c.size_of.ensures,
+  ap size_in c.in-Ok.ensures.old,
+)

@@ -20,7 +20,12 @@ pub returns-clause-small : goal.returns-clause-small
 returns-clause-small c = small_gone c.args.traces.now.entries c.remove.new.self.entries c.args.key c.remove.ensures.entries
 
 pub returns-clause-among : goal.returns-clause-among
-returns-clause-among c = omega (arith, size_within c.args.traces.now.entries c.args.key, c.size_of.ensures, ap size_in c.remove.ensures.value)
+returns-clause-among c = omega (
+  arith,
+  size_within c.args.traces.now.entries c.args.key,
+  c.size_of.ensures,
+  ap size_in c.remove.ensures.value,
+)
 
 pub returns-clause-nothing : goal.returns-clause-nothing
 returns-clause-nothing c = λ none. no_traces c.remove.new.self.entries (omega (arith, c.remove.ensures.len, ap length none))

@@ -6,7 +6,8 @@ use Rattle.request_model.specs.Counts.{arena_asks, arena_refusals, raw_asks, raw
 use Rattle.event_model.specs.Replies.{IsKnownReply}
 use Rattle.block_store.specs.Store.{StoreView}
 use Rattle.block_store.specs.declared.answer.Answer.{Answer}
-use Rattle.machine_core.specs.Acts.{Asks, is_quiet}
+use Rattle.machine_core.specs.Acts.{Asks}
+use Rattle.machine_core.specs.Deeds.{is_quiet}
 use Rattle.machine_core.specs.Held.{IsAsItWas}
 use Rattle.machine_core.specs.declared.held.Held.{Held as Holding}
 use Rattle.machine_core.proofs.ActLemmas.{quiet_asks}
@@ -48,6 +49,7 @@ returns-in_ok-answer-in-None-clause-acts g c =
     (subst (λ (h : Holding). IsAsItWas h c.prepare.new.self) same c.prepare.ensures.as_it_was)
     c.in_ok-prepared-in-None.ensures.prepared
     c.in_ok-answer-in-None.ensures.affects c.asking.ensures.others c.trace.ensures.makes c.trace.ensures.others
+    c.args.texts.now
 
 pub returns-in_ok-answer-in-None-clause-known : goal.returns-in_ok-answer-in-None-clause-known
 returns-in_ok-answer-in-None-clause-known g c =

@@ -1,4 +1,5 @@
 use Rattle.std.proofs.Common.{◌<◌, length, refl, sym, subst}
+use Rattle.mem_base.specs.declared.trace.Op.TheVariants as ops
 use Rattle.mem_base.specs.declared.trace.Side.TheVariants as sides
 use Rattle.request_model.specs.Counts.{arena_asks, arena_refusals, raw_asks, raw_refusals}
 use Rattle.trace_model.specs.Plain.{IsKnownAmong}
@@ -8,11 +9,12 @@ use Rattle.block_store.specs.declared.answer.Answer.{Answer}
 use Rattle.event_model.specs.Replies.{IsKnownReply}
 use Rattle.block_store.specs.Store.{sized_by}
 use Rattle.machine_core.specs.Acts.{Affects, Asks}
+use Rattle.machine_core.specs.Deeds.{IsCallFor}
 use Rattle.machine_core.proofs.FollowLemmas.{sized_known, textless}
 use Rattle.machine_core.specs.declared.held.Held.{Held as Holding}
 use Rattle.machine_core.proofs.ActLemmas.{held_told, nothing_fails, nothing_fails_unrefused, on_err, told_asks}
-use Rattle.machine_core.proofs.HeldLemmas.{IsCallFor, call_is, free_affects, is_calloc, is_malloc, is_realloc}
-use Rattle.machine_core.proofs.HeldLemmas.{sized_does}
+use Rattle.machine_core.proofs.DeedLemmas.{called}
+use Rattle.machine_core.proofs.HeldLemmas.{call_is, free_affects, sized_does}
 use Rattle.machine_core.proofs.held.Held.asking.Goals as goal
 
 pub returns-in-Malloc-clause-affects : goal.returns-in-Malloc-clause-affects
@@ -26,7 +28,8 @@ returns-in-Malloc-clause-affects g c =
     sized_does c.args.t c.args.op.now old (record old { store = c.malloc.new.self }) c.in-Malloc.name
     (malloc_call call.letter c.in-Malloc.size) call.locked c.malloc.result refl
     (subst (IsCallFor c.args.op.now c.in-Malloc.name) (sym of.0)
-    (is_malloc c.args.op.now c.in-Malloc.letter c.in-Malloc.name c.in-Malloc.size c.in-Malloc.is)) of.1 known
+    (called c.args.op.now (ops.Malloc c.in-Malloc.letter c.in-Malloc.name c.in-Malloc.size) c.in-Malloc.name
+    (malloc_call c.in-Malloc.letter c.in-Malloc.size) c.in-Malloc.is (λ texts. refl))) of.1 known
     c.malloc.ensures.turn c.malloc.ensures.fits
 
 pub returns-in-Calloc-clause-affects : goal.returns-in-Calloc-clause-affects
@@ -40,8 +43,9 @@ returns-in-Calloc-clause-affects g c =
     sized_does c.args.t c.args.op.now old (record old { store = c.calloc.new.self }) c.in-Calloc.name
     (calloc_call call.letter c.in-Calloc.elements c.in-Calloc.size) call.locked c.calloc.result refl
     (subst (IsCallFor c.args.op.now c.in-Calloc.name) (sym of.0)
-    (is_calloc c.args.op.now c.in-Calloc.letter c.in-Calloc.name c.in-Calloc.elements c.in-Calloc.size
-    c.in-Calloc.is)) of.1 known c.calloc.ensures.turn c.calloc.ensures.fits
+    (called c.args.op.now (ops.Calloc c.in-Calloc.letter c.in-Calloc.name c.in-Calloc.elements c.in-Calloc.size)
+    c.in-Calloc.name (calloc_call c.in-Calloc.letter c.in-Calloc.elements c.in-Calloc.size) c.in-Calloc.is
+    (λ texts. refl))) of.1 known c.calloc.ensures.turn c.calloc.ensures.fits
 
 pub returns-in-Realloc-clause-affects : goal.returns-in-Realloc-clause-affects
 returns-in-Realloc-clause-affects g c =
@@ -54,7 +58,8 @@ returns-in-Realloc-clause-affects g c =
     sized_does c.args.t c.args.op.now old (record old { store = c.realloc.new.self }) c.in-Realloc.name
     (realloc_call call.letter c.in-Realloc.size) call.locked c.realloc.result refl
     (subst (IsCallFor c.args.op.now c.in-Realloc.name) (sym of.0)
-    (is_realloc c.args.op.now c.in-Realloc.letter c.in-Realloc.name c.in-Realloc.size c.in-Realloc.is)) of.1
+    (called c.args.op.now (ops.Realloc c.in-Realloc.letter c.in-Realloc.name c.in-Realloc.size) c.in-Realloc.name
+    (realloc_call c.in-Realloc.letter c.in-Realloc.size) c.in-Realloc.is (λ texts. refl))) of.1
     known c.realloc.ensures.turn c.realloc.ensures.fits
 
 pub returns-in-Free-clause-affects : goal.returns-in-Free-clause-affects

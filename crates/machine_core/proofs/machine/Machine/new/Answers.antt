@@ -9,7 +9,7 @@ pub invariant_of-result : goal.invariant_of-result
 invariant_of-result c =
     let opened : List (List Frame) → ℕ → CallersView = λ fs n. record { files = n; frames = fs; table = [] } in
     opening_stands c.args.trace c.new-4.result c.in_ok-store.store c.in_ok-callers.callers c.new-5.result
-    c.in_ok-progress.progress c.len-2.ensures.table c.requires c.new-4.ensures
+    c.new-6.result c.in_ok-progress.progress c.len-2.ensures.table c.requires c.new-4.ensures
     (c.in_ok-store.ensures ∙ ap empty_store c.len-3.ensures.count)
     (c.in_ok-callers.ensures ∙ (λ i. opened (replicate (c.len.ensures i) []) (c.len-2.ensures.count i))) c.new-5.ensures
-    c.in_ok-progress.ensures.done c.in_ok-progress.ensures.is
+    c.in_ok-progress.ensures.done c.in_ok-progress.ensures.is c.new-6.ensures

@@ -1,4 +1,4 @@
-use Rattle.std.proofs.Common.{◌≡◌, ◌∙◌, ℕ, List, true, false, refl, sym, ap, arith, subst}
+use Rattle.std.proofs.Common.{◌≡◌, ◌∙◌, ℕ, List, true, false, refl, sym, ap, arith, subst, true≢false}
 use Rattle.mem_base.specs.declared.history.Entry.{Entry}
 use Rattle.mem_base.specs.declared.trace.Side.TheVariants as sides
 use Rattle.request_model.specs.Counts.{arena_asks, arena_refusals, raw_asks, raw_refusals}
@@ -7,7 +7,7 @@ use Rattle.event_model.specs.Replies.{IsKnownReply}
 use Rattle.machine_core.specs.Stands.{Stands}
 use Rattle.machine_core.specs.View.{IsEvent, MachineView, Requests, state_of, tracks_of}
 use Rattle.machine_core.proofs.ActLemmas.{nothing_fails, on_err}
-use Rattle.machine_core.proofs.StepLemmas.{few_taken, here_is, within, stands_still, stands_then, reply_is, is_next}
+use Rattle.machine_core.proofs.StepLemmas.{few_taken, here_is, not_ready, within, within_stacks, stands_still, stands_then, reply_is, is_next}
 use Rattle.machine_core.proofs.StepLemmas.{popped, requests_are, redone}
 use Rattle.machine_core.proofs.machine.Machine.step.Goals as goal
 
@@ -127,3 +127,18 @@ returns-in-Ok-clause-asks_raw g c =
     c.self.invariant c.index-at.ensures (sym c.in-Some.ensures) sides.Raw e (raw_asks asked.raw) (raw_refusals asked.raw)
     a.held.store.raws c.act.new.self.store.raws (g.R.RawSource.seen c.args.raws.now) (g.R.RawSource.seen c.act.new.raws)
     (ap (λ (x : Entry). x.track) c.quiet_entry-in-Ok.ensures) refl refl c.in-Ok.ensures.asks_raw)
+
+pub unreachable-requires : goal.unreachable-requires
+unreachable-requires g c =
+    let a = c.self.inside in
+    let ready = subst (λ (m : MachineView). is_ready (tracks_of m) (state_of m) c.args.t ≡ true)
+    (sym c.self.view_is) c.requires.ready in
+    true≢false (sym ready
+    ∙ not_ready a.trace a.history.entries a.held a.progress a.faulted c.args.t c.index-at.result.now c.self.invariant
+    c.index-at.ensures (sym c.in_default.ensures))
+
+pub act-requires-clause-track : goal.act-requires-clause-track
+act-requires-clause-track g c =
+    let a = c.self.inside in
+    within_stacks a.trace a.history.entries a.held a.progress a.faulted c.args.t c.index-at.result.now c.in-Some.op.now
+    c.self.invariant c.index-at.ensures (sym c.in-Some.ensures)

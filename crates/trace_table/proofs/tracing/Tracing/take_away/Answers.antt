@@ -7,7 +7,14 @@ invariant_of-self c =
     let t = c.self.inside in
     record {
       sum = c.bytes_then-self-inside.ensures;
-      below = omega (arith, c.self.invariant.below, c.self.invariant.sum, c.bytes_then-self-inside.ensures, c.take_out-gone.ensures.changes.bytes);
+      below = omega (
+        arith,
+        c.self.invariant.below,
+        c.self.invariant.sum,
+        c.bytes_then-self-inside.ensures,
+        c.take_out-gone.ensures.changes.bytes,
+      );
       small = c.take_out-gone.ensures.small c.self.invariant.small;
+      few = omega (arith, c.self.invariant.few, c.take_out-gone.ensures.none);
       idle = still_idle t.limit (λ idle. (c.take_out-gone.ensures.nothing idle.0, idle.1)) c.self.invariant.idle;
     }

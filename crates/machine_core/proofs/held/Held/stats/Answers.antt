@@ -1,0 +1,25 @@
+use Rattle.std.proofs.Common.{◌≡◌, ℕ, List, Option, None, subst}
+use Rattle.std.specs.Prelude.{IfNone, IfSome}
+use Rattle.mem_base.specs.declared.reply.Frame.{Frame}
+use Rattle.mem_base.specs.declared.reply.Group.{Group}
+use Rattle.snap_store.specs.Stand.{AreFirst, snapshot_at}
+use Rattle.machine_core.proofs.SnapshotLemmas.{stats_none, stats_some}
+use Rattle.machine_core.proofs.held.Held.stats.Goals as goal
+
+pub returns-in-Some-clause-acts : goal.returns-in-Some-clause-acts
+returns-in-Some-clause-acts c = λ t.
+    let old = c.args.self.now in
+    let are : List (List Frame) → ℕ × List Group → Type 0 =
+    λ table. AreFirst c.args.texts.now table c.args.by c.args.most (snapshot_at old.snapshots c.args.name) in
+    stats_some c.args.texts.now t old c.requires.sound.ranks c.args.name c.args.by c.args.most c.requires.known
+    (c.in-Some.count, c.in-Some.first)
+    (subst (λ (o : Option (ℕ × List Group)). IfSome o (are old.callers.table)) c.in-Some.is
+    (subst (λ (table : List (List Frame)). IfSome c.in_ok-count.field-0 (are table)) c.tracebacks-table.ensures.table
+    c.in_ok-count.ensures.first))
+
+pub returns-in-None-clause-acts : goal.returns-in-None-clause-acts
+returns-in-None-clause-acts c = λ t.
+    let old = c.args.self.now in
+    stats_none c.args.texts.now t old c.requires.sound.ranks c.args.name c.args.by c.args.most c.requires.known
+    (subst (λ (o : Option (ℕ × List Group)). IfNone o (snapshot_at old.snapshots c.args.name ≡ None)) c.in-None.is
+    c.in_ok-count.ensures.none)

@@ -1,0 +1,51 @@
+//! Frames: a file and a line with a colon between, and the lines of those that a trace keeps.
+ghost use Rattle.std.specs.Prelude.{◌≡◌, ◌<◌, ◌++◌, length, All, OnOk, OnErr};
+ghost use Rattle.trace_model.specs.Known.{IsKnown};
+ghost use Rattle.event_model.specs.Replies.{frame_of, frames_of};
+ghost use Rattle.report_model.specs.Report.{frame_line, frame_lines, frame_word};
+ghost use Rattle.report_text.specs.Texts.{StaysInFront};
+
+use crate::words::push_number;
+use mem_base::{Frame, Texts};
+use std::alloc::AllocError;
+
+// A frame: its file, a colon and its line.
+#[tactic(auto, unfolding(report_model::specs::Report::frame_word))]
+pub(crate) fn push_frame(text: &mut Vec<u8>, texts: &Texts, frame: Frame) -> Result<(), AllocError>
+    requires { IsKnown texts.now frame.file }
+    ensures ok { OnOk result (text.new.items ≡ text.old.items ++ frame_word (frame_of texts.now frame)) }
+    ensures err { OnErr result (StaysInFront text.old.items text.new.items) }
+{
+    text.extend_from_slice(texts.get(frame.file))?;
+    text.push(b':')?;
+    push_number(text, u64::from(frame.line))
+}
+
+// A line for a frame that a trace keeps.
+#[tactic(auto, unfolding(report_model::specs::Report::frame_line))]
+fn push_frame_line(text: &mut Vec<u8>, texts: &Texts, frame: Frame) -> Result<(), AllocError>
+    requires { IsKnown texts.now frame.file }
+    ensures ok { OnOk result (text.new.items ≡ text.old.items ++ frame_line (frame_of texts.now frame)) }
+    ensures err { OnErr result (StaysInFront text.old.items text.new.items) }
+{
+    text.extend_from_slice(b"  ")?;
+    push_frame(text, texts, frame)?;
+    text.push(b'\n')?;
+    Ok(())
+}
+
+// A line for each frame, the oldest first.
+pub(crate) fn push_frame_lines(
+    text: &mut Vec<u8>,
+    texts: &Texts,
+    kept: &[Frame],
+) -> Result<(), AllocError>
+    requires { All (λ f. IsKnown texts.now f.file) kept.now }
+    ensures ok { OnOk result (text.new.items ≡ text.old.items ++ frame_lines (frames_of texts.now kept.now)) }
+    ensures err { OnErr result (StaysInFront text.old.items text.new.items) }
+{
+    for frame in kept {
+        push_frame_line(text, texts, *frame)?;
+    }
+    Ok(())
+}
