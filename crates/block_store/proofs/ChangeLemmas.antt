@@ -24,7 +24,8 @@ use Rattle.layout_model.specs.Sizes.{need}
 use Rattle.request_model.specs.Decision.{Decision, too_great, faults, asks, decision, fits_in_place, move_request}
 use Rattle.event_model.specs.Blocks.{Home, Block, is_pooled}
 use Rattle.event_model.specs.Memory.{Room, SizedCall, Turn, block_made, change_turn, changed_body}
-use Rattle.event_model.specs.Memory.{layout_without, move_block, raw_home, realloc_call, request_to_move}
+use Rattle.event_model.specs.Deeds.{realloc_call}
+use Rattle.event_model.specs.Memory.{layout_without, move_block, raw_home, request_to_move}
 use Rattle.event_model.specs.Memory.{request_to_change, room_for, sized_request, stays_in_place, turn_to}
 use Rattle.event_model.specs.Replies.{PlainReply, null, ok, fault_in}
 use Rattle.domain_api.specs.Domains.{IsMoved, IsReallocated, IsRefused, IsResized, MayStay, MustMove, not_asked}

@@ -60,8 +60,8 @@ fn totals_of(slots: &[Option<Guarded>]) -> StoreTotals
 }
 
 impl Store {
-    ghost use Rattle.event_model.specs.Memory.{calloc_call, free_turn, malloc_call};
-    ghost use Rattle.event_model.specs.Memory.{peek_turn, poke_turn, realloc_call};
+    ghost use Rattle.event_model.specs.Deeds.{calloc_call, malloc_call, realloc_call};
+    ghost use Rattle.event_model.specs.Memory.{free_turn, peek_turn, poke_turn};
     ghost use Rattle.block_store.specs.Sources.{AreHeld, ArenasServe, CanAsk, Fails};
     ghost use Rattle.block_store.specs.Sources.{FailsUnrefused, IsPassedOn, RawsServe, Rests};
     ghost use Rattle.block_store.specs.Spots.{AreSpots, living};

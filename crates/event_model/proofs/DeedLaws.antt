@@ -14,7 +14,7 @@ use Rattle.map_model.proofs.CallerLemmas.{find-hold_other, find-hold_again}
 use Rattle.request_model.specs.Decision.{call_fault}
 use Rattle.tracing_model.specs.Traces.{of_block}
 use Rattle.event_model.specs.Deeds.{Deed, deed_of, takes_lock, gives_lock, calls, frees, writes_bytes, reads_bytes}
-use Rattle.event_model.specs.Deeds.{changes, marks, asks_trace, takes_snapshot, keeps_by, asks_stats}
+use Rattle.event_model.specs.Deeds.{changes, marks, asks_trace, takes_snapshot, keeps_by, asks_snapshots}
 use Rattle.event_model.specs.Effects.{act, block_of, effect, may_do_next, request_of, tracing_after}
 use Rattle.event_model.specs.Frames.{frames_at}
 use Rattle.event_model.specs.Memory.{SizedCall, fault_of, finding_of, is_busy}
@@ -24,7 +24,7 @@ use Rattle.event_model.specs.Tracing.{trace_in}
 use Rattle.event_model.proofs.KeepLaws.{sized_keeps, free_keeps, poke_keeps, peek_keeps}
 use Rattle.event_model.proofs.LayoutLaws.{Placing, Unplacing, sized_holds, unless_holds, poke_holds, peek_holds}
 use Rattle.event_model.proofs.NullLaws.{IsWhy, acquire_null, release_null, free_null, poke_null, peek_null, mark_null}
-use Rattle.event_model.proofs.NullLaws.{trace_null, snapshot_null, keep_null, stats_null, sized_why}
+use Rattle.event_model.proofs.NullLaws.{trace_null, snapshot_null, keep_null, asked_null, sized_why}
 use Rattle.event_model.proofs.TraceLaws.{AreIn, gives_none, all_stay, free_are, other_are, peek_sizes, poke_sizes}
 use Rattle.event_model.proofs.TraceLaws.{sized_are}
 
@@ -134,8 +134,7 @@ module _ (h : Held) (t : ℕ) where
       absurd (snapshot_null h.tracing name h.snapshots answer)
   null_is_call (keeps_by new old rules) arena raw fits answer =
       absurd (keep_null new rules (find h.snapshots old) h.snapshots answer)
-  null_is_call (asks_stats name key cumulative most) arena raw fits answer =
-      absurd (stats_null key cumulative most (find h.snapshots name) answer)
+  null_is_call (asks_snapshots question) arena raw fits answer = absurd (asked_null h.snapshots question answer)
   null_is_call d arena raw fits answer = absurd cc
 
   -- ---- the lock

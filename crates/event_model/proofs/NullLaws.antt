@@ -10,7 +10,6 @@ use Rattle.mem_base.specs.declared.history.Ask.TheVariants as ask
 use Rattle.mem_base.specs.declared.reply.Fault.{Fault}
 use Rattle.mem_base.specs.declared.reply.Fault.TheVariants.{Unlocked, BadId, BadLead, BadTail}
 use Rattle.mem_base.specs.Name.{Name}
-use Rattle.mem_base.specs.declared.trace.KeyKind.{KeyKind}
 use Rattle.mem_base.specs.declared.trace.Letter.{Letter}
 use Rattle.mem_base.specs.declared.trace.Letter.TheVariants.{Raw, Mem, Obj}
 use Rattle.mem_base.specs.declared.trace.Rule.{Rule}
@@ -26,6 +25,7 @@ use Rattle.request_model.specs.Decision.{request_after, max_size, max_data}
 use Rattle.request_model.proofs.CallerLemmas.{Decides, over_all, faulty, over_data, within, decides}
 use Rattle.tracing_model.specs.Traces.{TraceOf}
 use Rattle.tracing_model.specs.Tracing.{Tracing}
+use Rattle.map_model.specs.Map.{find}
 use Rattle.snapshot_model.specs.Snapshots.{PlainSnapshot}
 use Rattle.event_model.specs.Blocks.{Home, Block, is_pooled}
 use Rattle.event_model.specs.Lock.{acquire_turn, release_turn}
@@ -35,7 +35,8 @@ use Rattle.event_model.specs.Memory.{new_block_turn, stays_in_place, request_to_
 use Rattle.event_model.specs.Memory.{sized_turn, request_to_change, sized_request, free_unless, poke_turn}
 use Rattle.event_model.specs.Memory.{peek_turn}
 use Rattle.event_model.specs.Replies.{PlainReply, ok, null, busy, held, not_held, outside, bytes, fault_in, is_fault}
-use Rattle.event_model.specs.Snapshots.{Snapshots, keep_from, snapshot_turn, stats_in}
+use Rattle.event_model.specs.Snapshots.{Question, Snapshots, answer_to, changes_between, changes_in, groups_of}
+use Rattle.event_model.specs.Snapshots.{keep_from, snapshot_turn, stats_in, text_in, text_of}
 use Rattle.event_model.specs.State.{is_owner}
 use Rattle.event_model.specs.Tracing.{mark_answer, trace_answer}
 use Rattle.event_model.proofs.LayoutLaws.{change_by}
@@ -100,10 +101,23 @@ pub keep_null : (new : Name) (rules : List Rule) (o : Option PlainSnapshot) (all
 keep_null new rules None all h = absurd cc
 keep_null new rules (Some s) all h = absurd cc
 
-pub stats_null : (key : KeyKind) (cumulative : Bool) (most : ℕ) (o : Option PlainSnapshot)
-    → stats_in key cumulative most o ≡ null → ⊥
-stats_null key cumulative most None h = absurd cc
-stats_null key cumulative most (Some s) h = absurd cc
+pub asked_null : (all : Snapshots) (question : Question) → answer_to all question ≡ null → ⊥
+asked_null all (groups_of name key cumulative most) h = by (find all name) h
+  where
+    by : (o : Option PlainSnapshot) → stats_in key cumulative most o ≡ null → ⊥
+    by None h = absurd cc
+    by (Some s) h = absurd cc
+asked_null all (changes_between new old key cumulative most) h = by (find all new) (find all old) h
+  where
+    by : (o p : Option PlainSnapshot) → changes_in key cumulative most o p ≡ null → ⊥
+    by None p h = absurd cc
+    by (Some s) None h = absurd cc
+    by (Some s) (Some r) h = absurd cc
+asked_null all (text_of name) h = by (find all name) h
+  where
+    by : (o : Option PlainSnapshot) → text_in o ≡ null → ⊥
+    by None h = absurd cc
+    by (Some s) h = absurd cc
 
 -- ---- a request without room
 

@@ -1,21 +1,38 @@
 -- What an operation comes to. Calls for a block are of one kind here, and so are those of frames and of tracing; all
 -- else that depends on which operation comes is said of these. One more operation has one more line in deed_of.
-use Rattle.std.specs.Prelude.{ℕ, ℤ, Bool, List}
+use Rattle.std.specs.Prelude.{ℕ, ◌*◌, ℤ, Bool, true, false, List}
 use Rattle.mem_base.specs.Name.{Name}
-use Rattle.mem_base.specs.declared.trace.KeyKind.{KeyKind}
 use Rattle.mem_base.specs.declared.trace.Letter.{Letter}
 use Rattle.mem_base.specs.declared.trace.Rule.{Rule}
 use Rattle.mem_base.specs.declared.trace.Side.{Side}
+use Rattle.block_model.specs.Block.{new_byte}
 use Rattle.frame_model.specs.Frames.{PlainFrame, frames_below}
 use Rattle.tracing_model.specs.Traces.{of_mark}
 use Rattle.tracing_model.specs.Tracing.{Change, gets, forgets, starts, stops, clears, resets}
 use Rattle.trace_model.specs.Plain.{Action, acquire, release, malloc, calloc, realloc, free, poke, peek}
 use Rattle.trace_model.specs.Plain.{enter, go_to, leave}
 use Rattle.trace_model.specs.Plain.{start_tracing, stop_tracing, clear_traces, reset_peak, traced_memory}
-use Rattle.trace_model.specs.Plain.{mark, unmark, origin, snapshot, keep, stats}
-use Rattle.trace_model.specs.Plain.{heap, refuse, other}
+use Rattle.trace_model.specs.Plain.{mark, unmark, origin, snapshot, keep, stats, compare, dump}
+use Rattle.trace_model.specs.Plain.{heap, refuse}
 use Rattle.event_model.specs.Frames.{with_call, with_line}
-use Rattle.event_model.specs.Memory.{SizedCall, malloc_call, calloc_call, realloc_call}
+use Rattle.event_model.specs.Memory.{SizedCall}
+use Rattle.event_model.specs.Snapshots.{Question, groups_of, changes_between, text_of}
+
+-- ---- calls for a block
+
+-- malloc of n bytes
+abbrev pub malloc_call : Letter → ℕ → SizedCall
+malloc_call v n = record { letter = v; size = n; fill = new_byte; goes_on = false }
+
+-- calloc of so many elements of n bytes: its size is their product, however great
+abbrev pub calloc_call : Letter → ℕ → ℕ → SizedCall
+calloc_call v count n = record { letter = v; size = count * n; fill = 0; goes_on = false }
+
+-- realloc to n bytes
+abbrev pub realloc_call : Letter → ℕ → SizedCall
+realloc_call v n = record { letter = v; size = n; fill = new_byte; goes_on = true }
+
+-- ---- deeds
 
 pub data Deed : Type 0 where
   -- the lock is taken, or given up
@@ -40,14 +57,12 @@ pub data Deed : Type 0 where
   -- what is traced is kept under a name, or what rules leave of the second snapshot under the first name
   takes_snapshot : Name → Deed
   keeps_by : (new old : Name) → List Rule → Deed
-  -- the statistics of a snapshot are asked, and at most so many groups of them
-  asks_stats : Name → KeyKind → (cumulative : Bool) → (most : ℕ) → Deed
+  -- something is asked of the snapshots
+  asks_snapshots : Question → Deed
   -- the heap's shape is asked
   asks_shape : Deed
   -- a source is to refuse a request
   lists_request : Side → ℕ → Deed
-  -- nothing: operations that no trace may have yet
-  does_nothing : Deed
 
 abbrev pub deed_of : Action → Deed
 deed_of acquire = takes_lock
@@ -71,7 +86,8 @@ deed_of (unmark domain number) = marks (forgets (of_mark domain number))
 deed_of (origin name) = asks_trace name
 deed_of (snapshot name) = takes_snapshot name
 deed_of (keep new old rules) = keeps_by new old rules
-deed_of (stats name key cumulative most) = asks_stats name key cumulative most
+deed_of (stats name key cumulative most) = asks_snapshots (groups_of name key cumulative most)
+deed_of (compare new old key cumulative most) = asks_snapshots (changes_between new old key cumulative most)
+deed_of (dump name) = asks_snapshots (text_of name)
 deed_of heap = asks_shape
 deed_of (refuse side k) = lists_request side k
-deed_of other = does_nothing

@@ -16,14 +16,14 @@ use Rattle.tracing_model.specs.Traces.{of_block}
 use Rattle.tracing_model.specs.Tracing.{Tracing, Change, forgets, keeps, after}
 use Rattle.event_model.specs.Blocks.{Block}
 use Rattle.event_model.specs.Deeds.{Deed, takes_lock, gives_lock, calls, frees, writes_bytes, reads_bytes, moves}
-use Rattle.event_model.specs.Deeds.{changes, marks, asks_traced, asks_trace, takes_snapshot, keeps_by, asks_stats}
-use Rattle.event_model.specs.Deeds.{asks_shape, lists_request, does_nothing}
+use Rattle.event_model.specs.Deeds.{changes, marks, asks_traced, asks_trace, takes_snapshot, keeps_by, asks_snapshots}
+use Rattle.event_model.specs.Deeds.{asks_shape, lists_request}
 use Rattle.event_model.specs.Frames.{frames_at, frames_then}
 use Rattle.event_model.specs.Lock.{acquire_turn, release_turn}
 use Rattle.event_model.specs.Memory.{SizedCall, Turn, free_turn, peek_turn, poke_turn, sized_request, sized_turn}
-use Rattle.event_model.specs.Replies.{PlainReply, ok, shape, unsaid}
+use Rattle.event_model.specs.Replies.{PlainReply, ok, shape}
 use Rattle.event_model.specs.Shape.{heap_view}
-use Rattle.event_model.specs.Snapshots.{Snapshots, snapshot_turn, keep_turn, stats_answer}
+use Rattle.event_model.specs.Snapshots.{Snapshots, snapshot_turn, keep_turn, answer_to}
 use Rattle.event_model.specs.State.{Held, is_owner}
 use Rattle.event_model.specs.Tracing.{mark_answer, origin_answer, sized_change, traced_answer, unknown_frame, where_ok}
 
@@ -67,10 +67,9 @@ effect h t asks_traced arena raw = (h, traced_answer h.tracing)
 effect h t (asks_trace name) arena raw = (h, origin_answer h.tracing name)
 effect h t (takes_snapshot name) arena raw = on_snapshots h (snapshot_turn h.tracing name)
 effect h t (keeps_by new old rules) arena raw = on_snapshots h (keep_turn new old rules)
-effect h t (asks_stats name key cumulative most) arena raw = (h, stats_answer h.snapshots name key cumulative most)
+effect h t (asks_snapshots question) arena raw = (h, answer_to h.snapshots question)
 effect h t asks_shape arena raw = (h, shape (heap_view h.blocks h.layout))
 effect h t (lists_request at k) arena raw = (h, ok)
-effect h t does_nothing arena raw = (h, unsaid)
 
 -- ---- what is traced then
 
@@ -89,10 +88,9 @@ change_of asks_traced reply = keeps
 change_of (asks_trace name) reply = keeps
 change_of (takes_snapshot name) reply = keeps
 change_of (keeps_by new old rules) reply = keeps
-change_of (asks_stats name key cumulative most) reply = keeps
+change_of (asks_snapshots question) reply = keeps
 change_of asks_shape reply = keeps
 change_of (lists_request at k) reply = keeps
-change_of does_nothing reply = keeps
 
 -- what is traced after an operation of a track with these frames that answered so
 abbrev pub tracing_after : List PlainFrame → Deed → PlainReply → Option Tracing → Option Tracing
@@ -127,10 +125,9 @@ may_do_next owner t asks_traced = true
 may_do_next owner t (asks_trace name) = true
 may_do_next owner t (takes_snapshot name) = true
 may_do_next owner t (keeps_by new old rules) = true
-may_do_next owner t (asks_stats name key cumulative most) = true
+may_do_next owner t (asks_snapshots question) = true
 may_do_next owner t asks_shape = true
 may_do_next owner t (lists_request at k) = true
-may_do_next owner t does_nothing = true
 
 -- ---- the sources
 
@@ -149,10 +146,9 @@ is_quiet asks_traced = true
 is_quiet (asks_trace name) = true
 is_quiet (takes_snapshot name) = true
 is_quiet (keeps_by new old rules) = true
-is_quiet (asks_stats name key cumulative most) = true
+is_quiet (asks_snapshots question) = true
 is_quiet asks_shape = true
 is_quiet (lists_request at k) = false
-is_quiet does_nothing = true
 
 -- what a call of track t for a block asks for
 abbrev pub sized_for : Held → ℕ → Name → SizedCall → Request
@@ -173,10 +169,9 @@ request_of h t asks_traced = NoRequest
 request_of h t (asks_trace name) = NoRequest
 request_of h t (takes_snapshot name) = NoRequest
 request_of h t (keeps_by new old rules) = NoRequest
-request_of h t (asks_stats name key cumulative most) = NoRequest
+request_of h t (asks_snapshots question) = NoRequest
 request_of h t asks_shape = NoRequest
 request_of h t (lists_request at k) = NoRequest
-request_of h t does_nothing = NoRequest
 
 abbrev pub same_side : Side → Side → Bool
 same_side side.Arena side.Arena = true
@@ -199,10 +194,9 @@ lists_as s asked asks_traced n = false
 lists_as s asked (asks_trace name) n = false
 lists_as s asked (takes_snapshot name) n = false
 lists_as s asked (keeps_by new old rules) n = false
-lists_as s asked (asks_stats name key cumulative most) n = false
+lists_as s asked (asks_snapshots question) n = false
 lists_as s asked asks_shape n = false
 lists_as s asked (lists_request at k) n = same_side s at && (asked + k == n)
-lists_as s asked does_nothing n = false
 
 -- ---- the block that it is on
 
@@ -221,7 +215,6 @@ block_of asks_traced = None
 block_of (asks_trace name) = Some name
 block_of (takes_snapshot name) = None
 block_of (keeps_by new old rules) = None
-block_of (asks_stats name key cumulative most) = None
+block_of (asks_snapshots question) = None
 block_of asks_shape = None
 block_of (lists_request at k) = None
-block_of does_nothing = None

@@ -1,13 +1,13 @@
 -- The memory operations: what malloc, calloc, realloc, free, poke and peek do to the block of one name and to the
 -- layout.
-use Rattle.std.specs.Prelude.{ℕ, ◌*◌, ℤ, Bool, true, false, not, ◌&&◌, if◌then◌else◌, List, length, Option}
+use Rattle.std.specs.Prelude.{ℕ, ℤ, Bool, false, not, ◌&&◌, if◌then◌else◌, List, length, Option}
 use Rattle.std.specs.Prelude.{Some, None}
 use Rattle.mem_base.specs.declared.trace.Letter.{Letter}
 use Rattle.mem_base.specs.declared.history.Grant.{Grant}
 use Rattle.mem_base.specs.declared.history.Ask.{Ask}
 use Rattle.mem_base.specs.declared.history.Ask.TheVariants.{NotAsked, Refused, Granted}
 use Rattle.mem_base.specs.declared.reply.Fault.{Fault}
-use Rattle.block_model.specs.Block.{Body, finding_in, fresh, new_byte, peeked, poked, reaches, resized}
+use Rattle.block_model.specs.Block.{Body, finding_in, fresh, peeked, poked, reaches, resized}
 use Rattle.layout_model.specs.Asks.{Request}
 use Rattle.layout_model.specs.Asks.Request.{FromPools, FromRaw, NoRequest}
 use Rattle.layout_model.specs.Layout.{Layout}
@@ -172,18 +172,6 @@ abbrev pub sized_request : SizedCall → Bool → Option Block → Request
 sized_request call locked None = request_after call.letter call.size (came_to call locked None)
 sized_request call locked (Some block) =
     if call.goes_on then request_to_change call block (came_to call locked (Some block)) else NoRequest
-
--- malloc of n bytes
-abbrev pub malloc_call : Letter → ℕ → SizedCall
-malloc_call v n = record { letter = v; size = n; fill = new_byte; goes_on = false }
-
--- calloc of so many elements of n bytes: its size is their product, however great
-abbrev pub calloc_call : Letter → ℕ → ℕ → SizedCall
-calloc_call v count n = record { letter = v; size = count * n; fill = 0; goes_on = false }
-
--- realloc to n bytes
-abbrev pub realloc_call : Letter → ℕ → SizedCall
-realloc_call v n = record { letter = v; size = n; fill = new_byte; goes_on = true }
 
 -- ---- free
 

@@ -12,6 +12,7 @@ use Rattle.mem_base.specs.declared.reply.View.{View}
 use Rattle.block_model.specs.Block.{Body, report_of}
 use Rattle.frame_model.specs.Frames.{PlainFrame}
 pub use Rattle.frame_model.specs.Frames.{frame_of, frames_of}
+use Rattle.snapshot_model.specs.Compared.{Change, plain_change}
 use Rattle.snapshot_model.specs.Stats.{PlainGroup, plain_group}
 
 -- what an operation answers
@@ -34,12 +35,16 @@ pub data PlainReply : Type 0 where
   kept : (count : ℕ) → PlainReply
   -- how many groups the statistics have, and the first of them, from the greatest on
   groups : (count : ℕ) → List PlainGroup → PlainReply
+  -- how many changes there are from one snapshot to another, and the first of them, from the greatest on
+  changed : (count : ℕ) → List Change → PlainReply
+  -- the text of a dump
+  dumped : (text : List ℕ) → PlainReply
   bytes : List ℕ → PlainReply
   -- the heap's shape
   shape : View → PlainReply
   -- the fault, and the block that it lies in
   fault : Fault → Option BlockReport → PlainReply
-  -- for replies that no operation gives yet
+  -- where there is no operation, so that none answers
   unsaid : PlainReply
 
 abbrev pub is_fault : PlainReply → Bool
@@ -57,6 +62,8 @@ is_fault (traced current most) = false
 is_fault (frames fs total) = false
 is_fault (kept count) = false
 is_fault (groups count first) = false
+is_fault (changed count first) = false
+is_fault (dumped text) = false
 is_fault (bytes found) = false
 is_fault (shape view) = false
 is_fault (fault found block) = true
@@ -85,6 +92,8 @@ is_ok (traced current most) = false
 is_ok (frames fs total) = false
 is_ok (kept count) = false
 is_ok (groups count first) = false
+is_ok (changed count first) = false
+is_ok (dumped text) = false
 is_ok (bytes found) = false
 is_ok (shape view) = false
 is_ok (fault found block) = false
@@ -111,7 +120,7 @@ IsKnownReply texts (replies.Traced current most) = Unit {0}
 IsKnownReply texts (replies.Kept count) = Unit {0}
 IsKnownReply texts (replies.Frames fs total) = AreKnownFrames texts fs
 IsKnownReply texts (replies.Groups count first) = AllByRecursion (λ g. AreKnownFrames texts g.key) first
-IsKnownReply texts (replies.Diffs count first) = Unit {0}
+IsKnownReply texts (replies.Diffs count first) = AllByRecursion (λ d. AreKnownFrames texts d.key) first
 IsKnownReply texts (replies.Dumped text) = Unit {0}
 IsKnownReply texts (replies.Heap view) = Unit {0}
 IsKnownReply texts (replies.Fault found block) = Unit {0}
@@ -133,7 +142,7 @@ plain_reply texts (replies.Traced current most) = traced current most
 plain_reply texts (replies.Kept count) = kept count
 plain_reply texts (replies.Frames fs total) = frames (frames_of texts fs) total
 plain_reply texts (replies.Groups count first) = groups count (map (plain_group texts) first)
-plain_reply texts (replies.Diffs count first) = unsaid
-plain_reply texts (replies.Dumped text) = unsaid
+plain_reply texts (replies.Diffs count first) = changed count (map (plain_change texts) first)
+plain_reply texts (replies.Dumped text) = dumped text
 plain_reply texts (replies.Heap view) = shape view
 plain_reply texts (replies.Fault found block) = fault found block

@@ -16,8 +16,8 @@ use Rattle.sources.specs.Holder.{Answered, AskedNothing, Traded}
 use Rattle.sources.specs.Source.{ArenaShape, SourceView}
 use Rattle.sources.proofs.CallerLemmas.{traded_nothing, unrefused_nothing, unrefused_once}
 use Rattle.event_model.specs.Deeds.{Deed, takes_lock, gives_lock, calls, frees, writes_bytes, reads_bytes, moves}
-use Rattle.event_model.specs.Deeds.{changes, marks, asks_traced, asks_trace, takes_snapshot, keeps_by, asks_stats}
-use Rattle.event_model.specs.Deeds.{asks_shape, lists_request, does_nothing}
+use Rattle.event_model.specs.Deeds.{changes, marks, asks_traced, asks_trace, takes_snapshot, keeps_by, asks_snapshots}
+use Rattle.event_model.specs.Deeds.{asks_shape, lists_request}
 use Rattle.event_model.specs.Effects.{is_quiet as is_quiet_deed, lists_as}
 use Rattle.event_model.specs.Memory.{SizedCall}
 use Rattle.event_model.specs.Plans.{GrowsBy, lists}
@@ -63,10 +63,9 @@ quiet_lists op side quiet = λ texts asked n. by (deed_for texts op) asked n (st
     by (asks_trace name) asked n is = refl
     by (takes_snapshot name) asked n is = refl
     by (keeps_by new old rules) asked n is = refl
-    by (asks_stats name key cumulative most) asked n is = refl
+    by (asks_snapshots question) asked n is = refl
     by asks_shape asked n is = refl
     by (lists_request at k) asked n is = absurd (true≢false (sym is))
-    by does_nothing asked n is = refl
 
 -- nor does a call for a block, or a free
 pub call_lists : (op : Op) (side : Side) (name : TextId) (call : SizedCall) → IsCallFor op name call → ListsNone op side

@@ -9,6 +9,7 @@ use Rattle.mem_base.specs.Name.{Name}
 use Rattle.mem_base.specs.Texts.{IsTable, text_at}
 use Rattle.mem_base.specs.declared.history.Ask.{Ask}
 use Rattle.mem_base.specs.declared.history.Grant.{Grant}
+use Rattle.mem_base.specs.declared.reply.Diff.{Diff}
 use Rattle.mem_base.specs.declared.reply.Fault.{Fault}
 use Rattle.mem_base.specs.declared.reply.Frame.{Frame}
 use Rattle.mem_base.specs.declared.reply.Group.{Group}
@@ -19,19 +20,21 @@ use Rattle.layout_model.specs.Layout.{Layout}
 use Rattle.frame_model.specs.Frames.{PlainFrame}
 use Rattle.tracing_model.specs.Tracing.{Tracing, Change, gets, forgets, starts, stops, clears, resets, keeps, after}
 use Rattle.map_model.specs.Map.{find}
+use Rattle.snapshot_model.specs.Compared.{Change as KeyChange, plain_change}
 use Rattle.snapshot_model.specs.Stats.{PlainGroup, plain_group}
 use Rattle.request_model.specs.Decision.{Decision, too_great, faults, asks, max_size}
 use Rattle.request_model.proofs.CallerLemmas.{Decides, over_all, faulty, over_data, within, decides}
 use Rattle.event_model.specs.Blocks.{Block}
 use Rattle.event_model.specs.Deeds.{Deed, takes_lock, gives_lock, calls, frees, writes_bytes, reads_bytes, moves}
-use Rattle.event_model.specs.Deeds.{changes, marks, asks_traced, asks_trace, takes_snapshot, keeps_by, asks_stats}
-use Rattle.event_model.specs.Deeds.{asks_shape, lists_request, does_nothing}
+use Rattle.event_model.specs.Deeds.{changes, marks, asks_traced, asks_trace, takes_snapshot, keeps_by, asks_snapshots}
+use Rattle.event_model.specs.Deeds.{asks_shape, lists_request}
 use Rattle.event_model.specs.Effects.{change_of, effect, follow, is_quiet as is_quiet_deed, tracing_after}
 use Rattle.event_model.specs.Frames.{frames_at}
 use Rattle.event_model.specs.Memory.{SizedCall, Turn, came_to, change_turn, finding_of, new_block_turn, sized_turn}
 use Rattle.event_model.specs.Memory.{turn_to}
 use Rattle.event_model.specs.Replies.{PlainReply, IsKnownReply, ok, null, busy, absent, outside, held, not_held}
-use Rattle.event_model.specs.Replies.{not_tracing, no_snapshot, untraced, traced, frames, groups, bytes, shape, fault}
+use Rattle.event_model.specs.Replies.{not_tracing, no_snapshot, untraced, traced, frames, groups, changed, dumped, bytes}
+use Rattle.event_model.specs.Replies.{shape, fault}
 use Rattle.event_model.specs.Replies.{kept as kept_traces, unsaid, frame_of, AreKnownFrames}
 use Rattle.event_model.specs.Replies.{frames_of, is_fault, is_ok, plain_reply}
 use Rattle.event_model.specs.State.{Held, is_owner}
@@ -206,10 +209,9 @@ small_where_ok h t asks_traced asked asking is = absurd (true≢false asking)
 small_where_ok h t (asks_trace name) asked asking is = absurd (true≢false asking)
 small_where_ok h t (takes_snapshot name) asked asking is = absurd (true≢false asking)
 small_where_ok h t (keeps_by later old rules) asked asking is = absurd (true≢false asking)
-small_where_ok h t (asks_stats name key cumulative most) asked asking is = absurd (true≢false asking)
+small_where_ok h t (asks_snapshots question) asked asking is = absurd (true≢false asking)
 small_where_ok h t asks_shape asked asking is = absurd (true≢false asking)
 small_where_ok h t (lists_request side number) asked asking is = omega arith
-small_where_ok h t does_nothing asked asking is = absurd (true≢false asking)
 
 -- it means for what is traced what an ok means, or nothing
 only_ok : (d : Deed) (r : PlainReply) → is_quiet_deed d ≡ false → change_of d r ≡ where_ok r (change_of d ok)
@@ -226,14 +228,13 @@ only_ok asks_traced r asking = absurd (true≢false asking)
 only_ok (asks_trace name) r asking = absurd (true≢false asking)
 only_ok (takes_snapshot name) r asking = absurd (true≢false asking)
 only_ok (keeps_by later old rules) r asking = absurd (true≢false asking)
-only_ok (asks_stats name key cumulative most) r asking = absurd (true≢false asking)
+only_ok (asks_snapshots question) r asking = absurd (true≢false asking)
 only_ok asks_shape r asking = absurd (true≢false asking)
 only_ok (lists_request side number) r asking = by (is_ok r)
   where
     by : (b : Bool) → keeps ≡ cond b keeps keeps
     by true = refl
     by false = refl
-only_ok does_nothing r asking = absurd (true≢false asking)
 
 -- a fault is no ok
 fault_not_ok : (r : PlainReply) → is_fault r ≡ true → is_ok r ≡ false
@@ -251,6 +252,8 @@ fault_not_ok (traced current most) fell = refl
 fault_not_ok (frames fs total) fell = refl
 fault_not_ok (kept_traces count) fell = refl
 fault_not_ok (groups count first) fell = refl
+fault_not_ok (changed count first) fell = refl
+fault_not_ok (dumped text) fell = refl
 fault_not_ok (bytes found) fell = refl
 fault_not_ok (shape view) fell = refl
 fault_not_ok (fault found block) fell = refl
@@ -388,6 +391,22 @@ textless_groups texts (g ∷ gs) (i ∷ is) same = (textless_frames texts g.key 
     rest : (names : List Name) → map (plain_group names) gs ≡ is
     rest names = let both : map (plain_group names) (g ∷ gs) ≡ i ∷ is = same names in cc
 
+-- and changes
+textless_changes : (texts : ℕ) (ds : List Diff) (is : List KeyChange) → ((names : List Name) → map (plain_change names) ds ≡ is)
+    → AllByRecursion (λ d. AreKnownFrames texts d.key) ds
+textless_changes texts [] is same = tt
+textless_changes texts (d ∷ ds) [] same = let none : map (plain_change []) (d ∷ ds) ≡ [] = same [] in absurd cc
+textless_changes texts (d ∷ ds) (i ∷ is) same = (textless_frames texts d.key i.key first, textless_changes texts ds is rest)
+  where
+    first : (names : List Name) → frames_of names d.key ≡ i.key
+    first names =
+        let both : map (plain_change names) (d ∷ ds) ≡ i ∷ is = same names in
+        let one : plain_change names d ≡ i = cc in
+        ap (λ (c : KeyChange). c.key) one
+
+    rest : (names : List Name) → map (plain_change names) ds ≡ is
+    rest names = let both : map (plain_change names) (d ∷ ds) ≡ i ∷ is = same names in cc
+
 -- a reply that says the same whatever the texts are says no text
 pub textless : (texts : ℕ) (reply : Reply) (r : PlainReply) → ((names : List Name) → plain_reply names reply ≡ r)
     → IsKnownReply texts reply
@@ -412,7 +431,10 @@ textless texts (replies.Groups count gs) r same =
     textless_groups texts gs (map (plain_group []) gs)
     (λ names. let both : plain_reply names (replies.Groups count gs) ≡ plain_reply [] (replies.Groups count gs) =
     same names ∙ sym (same []) in cc)
-textless texts (replies.Diffs count diffs) r same = tt
+textless texts (replies.Diffs count ds) r same =
+    textless_changes texts ds (map (plain_change []) ds)
+    (λ names. let both : plain_reply names (replies.Diffs count ds) ≡ plain_reply [] (replies.Diffs count ds) =
+    same names ∙ sym (same []) in cc)
 textless texts (replies.Dumped text) r same = tt
 textless texts (replies.Heap view) r same = tt
 textless texts (replies.Fault found block) r same = tt

@@ -1,6 +1,6 @@
 -- What the operations on snapshots do.
 use Rattle.std.proofs.Common.{◌≡◌, ℕ, ◌<◌, Bool, false, cond, List, length, map, Option, Some, None, Result, Ok, Err, refl}
-use Rattle.std.proofs.Common.{sym, ap, subst, ◌∙◌, inl, inr}
+use Rattle.std.proofs.Common.{sym, ap, subst, ◌∙◌, inl, inr, ◌⊎◌}
 use Rattle.std.specs.Prelude.{IfOk, IfSome, is_some}
 use Rattle.std.specs.Option.{option_map}
 use Rattle.std.specs.declared.alloc.AllocError.{AllocError}
@@ -9,6 +9,7 @@ use Rattle.mem_base.specs.Name.{Name}
 use Rattle.mem_base.specs.Texts.{IsTable, text_at}
 use Rattle.mem_base.specs.declared.history.Ask.TheVariants as ask
 use Rattle.mem_base.specs.declared.history.Grant.TheVariants as grant
+use Rattle.mem_base.specs.declared.reply.Diff.{Diff}
 use Rattle.mem_base.specs.declared.reply.Group.{Group}
 use Rattle.mem_base.specs.declared.reply.Reply.{Reply}
 use Rattle.mem_base.specs.declared.reply.Reply.TheVariants as replies
@@ -18,13 +19,16 @@ use Rattle.mem_base.specs.declared.trace.Op.TheVariants as ops
 use Rattle.mem_base.specs.declared.trace.Rule.{Rule}
 use Rattle.layout_model.specs.Asks.{FitsRequest}
 use Rattle.layout_model.specs.Asks.Request.{NoRequest}
-use Rattle.map_model.specs.Map.{put}
+use Rattle.map_model.specs.Map.{find, put}
 use Rattle.tracing_model.specs.Tracing.{Tracing, keeps}
 use Rattle.snapshot_model.specs.Rules.{kept_by}
 use Rattle.snapshot_model.specs.Snapshots.{PlainSnapshot, snapshot_of}
+use Rattle.event_model.specs.Deeds.{Deed, asks_snapshots}
 use Rattle.event_model.specs.Effects.{change_of, effect, request_of}
-use Rattle.event_model.specs.Replies.{PlainReply, frames_of, groups, is_fault, kept as kept_traces, not_tracing, plain_reply}
-use Rattle.event_model.specs.Snapshots.{Snapshots, keep_from, snapshot_turn, stats_in}
+use Rattle.event_model.specs.Replies.{PlainReply, changed, dumped, frames_of, groups, is_fault, kept as kept_traces}
+use Rattle.event_model.specs.Replies.{no_snapshot, not_tracing, plain_reply}
+use Rattle.event_model.specs.Snapshots.{Question, Snapshots, answer_to, changes_between, changes_in, groups_of}
+use Rattle.event_model.specs.Snapshots.{keep_from, snapshot_turn, stats_in, text_in, text_of}
 use Rattle.event_model.specs.State.{Held}
 use Rattle.domain_api.specs.Domains.{not_asked}
 use Rattle.trace_table.specs.Plain.{IsTaken, plain_row, plain_snapshot}
@@ -32,7 +36,8 @@ use Rattle.trace_table.specs.Ranks.{AreRanks}
 use Rattle.trace_table.specs.declared.key.TraceOf.{TraceOf as Stored}
 use Rattle.trace_table.specs.declared.snapshot.Snapshot.{Snapshot}
 use Rattle.snap_stats.specs.declared.stats.Grouping.{Grouping}
-use Rattle.snap_store.specs.Stand.{SnapshotsView, AreFirst, IsKeptBy, Keeps, SnapshotsStand, snapshot_at}
+use Rattle.snap_store.specs.Stand.{SnapshotsView, AreFirst, AreFirstChanges, IsKeptBy, IsTextOf, Keeps}
+use Rattle.snap_store.specs.Stand.{SnapshotsStand, snapshot_at}
 use Rattle.snap_store.proofs.CallerLemmas.{stand_with, taken_is, taken_stored}
 use Rattle.machine_core.specs.Acts.{ActsAmong, left_by}
 use Rattle.machine_core.specs.Deeds.{deed_for}
@@ -172,35 +177,96 @@ module _ (texts : List Name) (t : ℕ) (old new : Holding) (ranked : IfSome new.
               ∙ (λ i. (record h { snapshots = put h.snapshots text rest }, kept_traces (counted i))),
         ))
 
--- ---- statistics are asked
+-- ---- the snapshots are asked
 
-module _ (texts : List Name) (t : ℕ) (old : Holding) (ranked : IfSome old.ranks (AreRanks texts)) (name : TextId)
-    (by : Grouping) (most : ℕ) (known : name.0 < length texts) where
-  abbrev stats_op : Op
-  stats_op = ops.Stats name by.key by.cumulative most
-
-  -- the statistics of the snapshot that is found, by name
-  abbrev stats_of_found : Held → Option PlainSnapshot → Held × PlainReply
-  stats_of_found h found = (h, stats_in by.key by.cumulative most found)
-
-  pub stats_none : snapshot_at old.snapshots name ≡ None → ActsAmong texts t stats_op old old not_asked replies.NoSnapshot
-  stats_none none =
-      snapshots_act texts t old old ranked refl stats_op replies.NoSnapshot refl (λ h. refl) (λ r. refl)
+module _ (texts : List Name) (t : ℕ) (old : Holding) (ranked : IfSome old.ranks (AreRanks texts)) where
+  -- an operation that comes to a question, whose answer is the reply
+  asked_acts : (o : Op) (question : Question) (reply : Reply) → deed_for texts o ≡ asks_snapshots question
+      → is_fault (plain_reply texts reply) ≡ false
+      → ((plain : Snapshots) → SnapshotsStand texts old.callers.table old.snapshots plain
+      → answer_to plain question ≡ plain_reply texts reply)
+      → ActsAmong texts t o old old not_asked reply
+  asked_acts o question reply is sound answers =
+      snapshots_act texts t old old ranked refl o reply sound (λ h. ap (request_of h t) is)
+      (λ r. ap (λ (d : Deed). change_of d r) is)
       (λ h names stands. (
         h.snapshots,
         stands.snapshots,
-        ap (stats_of_found h) (stands.snapshots.named name known
-            ∙ ap (option_map (plain_snapshot texts old.callers.table)) none),
+        ap (λ (d : Deed). effect h t d grant.NotAsked ask.NotAsked) is
+            ∙ ap (λ (r : PlainReply). (h, r)) (answers h.snapshots stands.snapshots),
       ))
 
-  pub stats_some : (answer : ℕ × List Group) → AreFirst texts old.callers.table by most (snapshot_at old.snapshots name) answer
-      → ActsAmong texts t stats_op old old not_asked (replies.Groups answer.0 answer.1)
-  stats_some answer first =
-      snapshots_act texts t old old ranked refl stats_op (replies.Groups answer.0 answer.1) refl (λ h. refl) (λ r. refl)
-      (λ h names stands. (
-        h.snapshots,
-        stands.snapshots,
-        ap (stats_of_found h) (stands.snapshots.named name known
-            ∙ ap (option_map (plain_snapshot texts old.callers.table)) first.had)
-            ∙ (λ i. (h, groups (sym first.counted i) (sym first.first i))),
-      ))
+  -- what a name has by its text, where this is what its number has
+  named_so : (name : TextId) (found : Option Snapshot) → name.0 < length texts → snapshot_at old.snapshots name ≡ found
+      → (plain : Snapshots) → SnapshotsStand texts old.callers.table old.snapshots plain
+      → find plain (text_at texts name) ≡ option_map (plain_snapshot texts old.callers.table) found
+  named_so name found known is plain stands =
+      stands.named name known ∙ ap (option_map (plain_snapshot texts old.callers.table)) is
+
+  -- ---- statistics
+
+  module _ (name : TextId) (by : Grouping) (most : ℕ) (known : name.0 < length texts) where
+    abbrev stats_op : Op
+    stats_op = ops.Stats name by.key by.cumulative most
+
+    abbrev stats_asked : Question
+    stats_asked = groups_of (text_at texts name) by.key by.cumulative most
+
+    pub stats_none : snapshot_at old.snapshots name ≡ None → ActsAmong texts t stats_op old old not_asked replies.NoSnapshot
+    stats_none none = asked_acts stats_op stats_asked replies.NoSnapshot refl refl
+        (λ plain stands. ap (stats_in by.key by.cumulative most) (named_so name None known none plain stands))
+
+    pub stats_some : (answer : ℕ × List Group)
+        → AreFirst texts old.callers.table by most (snapshot_at old.snapshots name) answer
+        → ActsAmong texts t stats_op old old not_asked (replies.Groups answer.0 answer.1)
+    stats_some answer first = asked_acts stats_op stats_asked (replies.Groups answer.0 answer.1) refl refl
+        (λ plain stands. ap (stats_in by.key by.cumulative most) (named_so name (Some first.from) known first.had plain stands)
+        ∙ (λ i. groups (sym first.counted i) (sym first.first i)))
+
+  -- ---- changes
+
+  module _ (names : TextId × TextId) (by : Grouping) (most : ℕ) (new_known : names.0.0 < length texts)
+      (old_known : names.1.0 < length texts) where
+    abbrev compare_op : Op
+    compare_op = ops.Compare names.0 names.1 by.key by.cumulative most
+
+    abbrev compare_asked : Question
+    compare_asked = changes_between (text_at texts names.0) (text_at texts names.1) by.key by.cumulative most
+
+    -- there is none where one of the two has no snapshot
+    lacks_one : (n o : Option PlainSnapshot) → ((n ≡ None) ⊎ (o ≡ None)) → changes_in by.key by.cumulative most n o ≡ no_snapshot
+    lacks_one None o lacks = refl
+    lacks_one (Some s) None lacks = refl
+    lacks_one (Some s) (Some r) lacks = elim lacks [ inl none ↦ absurd cc | inr none ↦ absurd cc ]
+
+    pub compare_none : (snapshot_at old.snapshots names.0 ≡ None) ⊎ (snapshot_at old.snapshots names.1 ≡ None)
+        → ActsAmong texts t compare_op old old not_asked replies.NoSnapshot
+    compare_none none = asked_acts compare_op compare_asked replies.NoSnapshot refl refl (λ plain stands.
+        lacks_one (find plain (text_at texts names.0)) (find plain (text_at texts names.1))
+        (elim none [
+          | inl new ↦ inl (named_so names.0 None new_known new plain stands)
+          | inr was ↦ inr (named_so names.1 None old_known was plain stands)
+        ]))
+
+    pub compare_some : (answer : ℕ × List Diff)
+        → AreFirstChanges texts old.callers.table by most (snapshot_at old.snapshots names.0, snapshot_at old.snapshots names.1) answer
+        → ActsAmong texts t compare_op old old not_asked (replies.Diffs answer.0 answer.1)
+    compare_some answer first = asked_acts compare_op compare_asked (replies.Diffs answer.0 answer.1) refl refl
+        (λ plain stands.
+        (λ i. changes_in by.key by.cumulative most (named_so names.0 (Some first.new) new_known first.had_new plain stands i)
+        (named_so names.1 (Some first.old) old_known first.had_old plain stands i))
+        ∙ (λ i. changed (sym first.counted i) (sym first.first i)))
+
+  -- ---- dumps
+
+  module _ (name : TextId) (known : name.0 < length texts) where
+    pub dump_none : snapshot_at old.snapshots name ≡ None
+        → ActsAmong texts t (ops.Dump name) old old not_asked replies.NoSnapshot
+    dump_none none = asked_acts (ops.Dump name) (text_of (text_at texts name)) replies.NoSnapshot refl refl
+        (λ plain stands. ap text_in (named_so name None known none plain stands))
+
+    pub dump_some : (text : List ℕ) → IsTextOf texts old.callers.table (snapshot_at old.snapshots name) text
+        → ActsAmong texts t (ops.Dump name) old old not_asked (replies.Dumped text)
+    dump_some text spelt = asked_acts (ops.Dump name) (text_of (text_at texts name)) (replies.Dumped text) refl refl
+        (λ plain stands. ap text_in (named_so name (Some spelt.from) known spelt.had plain stands)
+        ∙ ap dumped (sym spelt.spelt))

@@ -4,13 +4,16 @@
 //! `free`, `poke`, `peek`) and for the heap's shape, of the owner for the interpreter lock (`take_gil` and
 //! `drop_gil` of CPython's `ceval_gil.c`, without the waiting: a track that has to wait is not ready), of
 //! the callers for a frame that comes, goes on or goes, of the traces for what tracemalloc's functions do,
-//! and of a source for a refusal. What follows for the traces from a call of the store stands in `traces`.
+//! and of a source for a refusal. What follows for the traces from a call of the store stands in `traces`, and what
+//! is kept of the traces in `snapshots`.
 //!
 //! ```text
 //!     store      name 3: a block of 100 bytes        name 4: none
 //!     owner      track 0
 //!     callers    track 0: main.py:3 load.py:10       track 1: no frames       tracebacks 0, 1, ..
 //!     tracing    limit 1    name 3: 100 bytes, traceback 1, of 2 frames       sum 100, peak 140
+//!     ranks      none, until the first snapshot is taken
+//!     snapshots  name 9: the traces that there were, in the order of their names
 //! ```
 ghost use Rattle.std.specs.Prelude.{◌≡◌, ◌<◌, ◌≤◌, ◌^◌, List, length, true, false, is_some};
 ghost use Rattle.std.specs.Prelude.{IfOk, IfSome, IfNone, OnOk, OnErr};
@@ -193,6 +196,18 @@ impl Held {
                 let reply = self.stats(alloc, *name, by, *most, texts)?;
                 Ok(Some(reply))
             }
+            Op::Compare(new, old, key, cumulative, most) => {
+                let by = Grouping {
+                    key: *key,
+                    cumulative: *cumulative,
+                };
+                let reply = self.compare(alloc, (*new, *old), by, *most, texts)?;
+                Ok(Some(reply))
+            }
+            Op::Dump(name) => {
+                let reply = self.dump(alloc, *name, texts)?;
+                Ok(Some(reply))
+            }
             Op::Heap => {
                 let view = self.store.view()?;
                 Ok(Some(Reply::Heap(view)))
@@ -202,7 +217,6 @@ impl Held {
             | Op::Realloc(_, _, _)
             | Op::Free(_, _)
             | Op::Refuse(_, _) => Ok(None),
-            Op::Compare(_, _, _, _, _) | Op::Dump(_) => unreachable!(),
         }
     }
 

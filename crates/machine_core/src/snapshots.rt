@@ -1,5 +1,6 @@
-//! What `tracemalloc.take_snapshot`, `Snapshot.filter_traces` and `Snapshot.statistics` of `Lib/tracemalloc.py`
-//! do: snapshots under names, what rules leave of them, and their statistics.
+//! What `tracemalloc.take_snapshot`, `Snapshot.filter_traces`, `Snapshot.statistics` and `Snapshot.compare_to` of
+//! `Lib/tracemalloc.py` do: snapshots under names, what rules leave of them, their statistics, and the changes from
+//! one to another. A dump is a snapshot as text, which takes the place of the pickled files of `Snapshot.dump`.
 //!
 //! The rows of a snapshot stand in the order of their blocks' names. All names are put in order once, when the
 //! first snapshot is taken, and then stand there by number:
@@ -124,6 +125,52 @@ impl Held {
         let table = self.callers.tracebacks();
         match self.snapshots.stats(alloc, name, by, most, texts, table)? {
             Some((count, first)) => Ok(Reply::Groups(count, first)),
+            None => Ok(Reply::NoSnapshot),
+        }
+    }
+    /// The first changes from an old name's snapshot to a new name's, and how many there are. The names are the new
+    /// one and the old one. The error is want of memory.
+    pub(crate) fn compare(
+        &self,
+        alloc: Global,
+        names: (TextId, TextId),
+        by: Grouping,
+        most: u32,
+        texts: &Texts,
+    ) -> Result<Reply, AllocError>
+        requires new { names.0.0 < length texts.now }
+        requires old { names.1.0 < length texts.now }
+        requires sound { IsSound texts.now self.now }
+        ensures acts { (t : ℕ) → IfOk result (ActsAmong texts.now t
+            (ops.Compare names.0 names.1 by.key by.cumulative most) self.now self.now not_asked) }
+        ensures known { IfOk result (IsKnownReply (length texts.now)) }
+    {
+        let table = self.callers.tracebacks();
+        match self
+            .snapshots
+            .compare(alloc, names, by, most, texts, table)?
+        {
+            Some((count, first)) => Ok(Reply::Diffs(count, first)),
+            None => Ok(Reply::NoSnapshot),
+        }
+    }
+
+    /// The name's snapshot as text. The error is want of memory.
+    pub(crate) fn dump(
+        &self,
+        alloc: Global,
+        name: TextId,
+        texts: &Texts,
+    ) -> Result<Reply, AllocError>
+        requires known { name.0 < length texts.now }
+        requires sound { IsSound texts.now self.now }
+        ensures acts { (t : ℕ) → IfOk result
+            (ActsAmong texts.now t (ops.Dump name) self.now self.now not_asked) }
+        ensures known { IfOk result (IsKnownReply (length texts.now)) }
+    {
+        let table = self.callers.tracebacks();
+        match self.snapshots.dump(alloc, name, texts, table)? {
+            Some(text) => Ok(Reply::Dumped(text)),
             None => Ok(Reply::NoSnapshot),
         }
     }

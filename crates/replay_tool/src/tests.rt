@@ -1,11 +1,14 @@
 //! Runs over streams and sources in memory. The expected texts are worked out by hand.
 
+mod snapshots;
+
 use crate::run;
 use machine_core::{Machine, Spot};
 use mem_base::{Ask, Grant, History, List, Reply, TextId};
 use report_text::push_number;
 use sources::{ArenaSource, MemArenas, MemRaw, RawSource};
 use std::alloc::{AllocError, Global};
+use std::process::Abort;
 use std::test::Fail;
 use streams::{MemSink, MemSource};
 use trace_reader::read_trace;
@@ -77,6 +80,15 @@ struct Replayed<'a> {
     status: u8,
     arenas: (u64, u64),
     raws: (u64, u64),
+}
+
+// A run gave what the row says.
+fn expect_replayed(rt: &impl Abort, given: &Given, row: &Replayed<'_>, at: usize) {
+    assert_eq!(rt; given.out.as_slice(), row.report, "row {at}");
+    assert_eq!(rt; given.status, row.status, "row {at}");
+    assert_eq!(rt; given.arenas, row.arenas, "row {at}");
+    assert_eq!(rt; given.raws, row.raws, "row {at}");
+    assert!(rt; given.err.is_empty(), "row {at}");
 }
 
 const FIRST: &[u8] = b"pymtrace 1
@@ -501,109 +513,10 @@ summary traced 0 peak 0
             arenas: (0, 0),
             raws: (4, 1),
         },
-        // Groups of a snapshot, the greatest first, and what a rule leaves of it. In a pattern and in a
-        // name a last `.pyc` counts as `.py`.
-        Replayed {
-            trace: b"pymtrace 1
-track t
-acquire
-start 1
-call a.py 1
-malloc m p 10
-line 2
-malloc m q 10
-call b.pyc 1
-malloc m r 30
-snapshot s
-stats s lineno plain 10
-stats s filename plain 10
-keep u s ex,top,*,*,[!a]*.pyc
-stats u lineno plain 1
-",
-            report: b"1 t acquire = ok
-2 t start 1 = ok
-3 t call a.py 1 = ok
-4 t malloc m p 10 = ok
-5 t line 2 = ok
-6 t malloc m q 10 = ok
-7 t call b.pyc 1 = ok
-8 t malloc m r 30 = ok
-9 t snapshot s = ok 3
-10 t stats s lineno plain 10 = groups 3
-  30 1 b.pyc:1
-  10 1 a.py:2
-  10 1 a.py:1
-11 t stats s filename plain 10 = groups 2
-  30 1 b.pyc:0
-  20 2 a.py:0
-12 t keep u s ex,top,*,*,[!a]*.pyc = ok 2
-13 t stats u lineno plain 1 = groups 2
-  10 1 a.py:2
-summary events 13 status 0
-summary lock free
-summary blocks 3 bytes 50
-summary arenas given 1 back 0 most 1
-summary traced 50 peak 50
-",
-            status: 0,
-            arenas: (1, 0),
-            raws: (0, 0),
-        },
-        // Each kept frame counts where statistics are cumulative; a traceback counts as a whole. Without
-        // tracing there is no snapshot, and a name without one has no statistics.
-        Replayed {
-            trace: b"pymtrace 1
-track t
-start 3
-call a.py 1
-call a.py 2
-malloc r x 5
-snapshot s
-stats s filename cumulative 9
-stats s lineno cumulative 9
-stats s traceback plain 9
-stats z lineno plain 9
-stop
-snapshot z
-keep s z
-stats s lineno plain 9
-",
-            report: b"1 t start 3 = ok
-2 t call a.py 1 = ok
-3 t call a.py 2 = ok
-4 t malloc r x 5 = ok
-5 t snapshot s = ok 1
-6 t stats s filename cumulative 9 = groups 1
-  10 2 a.py:0
-7 t stats s lineno cumulative 9 = groups 2
-  5 1 a.py:2
-  5 1 a.py:1
-8 t stats s traceback plain 9 = groups 1
-  5 1 a.py:1 a.py:2
-9 t stats z lineno plain 9 = no_snapshot
-10 t stop = ok
-11 t snapshot z = not_tracing
-12 t keep s z = no_snapshot
-13 t stats s lineno plain 9 = groups 1
-  5 1 a.py:2
-summary events 13 status 0
-summary lock free
-summary blocks 1 bytes 5
-summary arenas given 0 back 0 most 0
-summary traced 0 peak 0
-",
-            status: 0,
-            arenas: (0, 0),
-            raws: (1, 0),
-        },
     ];
     for (at, row) in rows.iter().enumerate() {
         let given = replay(rt.alloc(), row.trace)?;
-        assert_eq!(rt; given.out.as_slice(), row.report, "row {at}");
-        assert_eq!(rt; given.status, row.status, "row {at}");
-        assert_eq!(rt; given.arenas, row.arenas, "row {at}");
-        assert_eq!(rt; given.raws, row.raws, "row {at}");
-        assert!(rt; given.err.is_empty(), "row {at}");
+        expect_replayed(&rt, &given, row, at);
     }
     Ok(())
 }

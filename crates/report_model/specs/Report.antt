@@ -1,7 +1,8 @@
 -- The texts of events, the summary, and the report of a history.
-use Rattle.std.specs.Prelude.{ℕ, ◌+◌, if◌then◌else◌, List, [], ◌∷◌, ◌++◌, length, map, slice_get}
+use Rattle.std.specs.Prelude.{ℕ, ◌+◌, ◌==◌, ℤ, pos, negsuc, if◌then◌else◌, List, [], ◌∷◌, ◌++◌, length, map, slice_get}
 use Rattle.std.specs.Prelude.{unwrap_or, Option, Some, None, codes, decimal}
-use Rattle.std.specs.List.{flat_map, join_with_byte}
+use Rattle.std.specs.Fmt.{signed_decimal}
+use Rattle.std.specs.List.{flat_map, join_with_byte, slice_split}
 use Rattle.mem_base.specs.declared.history.Entry.{Entry}
 use Rattle.mem_base.specs.declared.reply.ArenaLine.{ArenaLine}
 use Rattle.mem_base.specs.declared.reply.BlockReport.{BlockReport}
@@ -13,14 +14,17 @@ use Rattle.mem_base.specs.declared.reply.UsedPool.{UsedPool}
 use Rattle.mem_base.specs.declared.reply.View.{View}
 use Rattle.mem_base.specs.Name.{Name}
 use Rattle.frame_model.specs.Frames.{PlainFrame}
+use Rattle.snapshot_model.specs.Compared.{Change}
 use Rattle.snapshot_model.specs.Stats.{PlainGroup}
 use Rattle.trace_model.specs.Plain.{Action, PlainTrack, name_of}
 use Rattle.trace_model.specs.Operands.{hex_word}
-use Rattle.trace_model.specs.Spelling.{line_of, blank, line_end}
+use Rattle.trace_model.specs.Spelling.{line_of, blank, line_end, with_end}
+use Rattle.dump_model.specs.Spelling.{frame_word}
 use Rattle.event_model.specs.Events.{next_action, event}
 use Rattle.event_model.specs.History.{opening, last_state, totals_of}
 use Rattle.event_model.specs.Replies.{PlainReply, ok, null, busy, absent, outside, held, not_held, not_tracing}
-use Rattle.event_model.specs.Replies.{no_snapshot, untraced, traced, frames, kept, groups, bytes, shape, fault, unsaid}
+use Rattle.event_model.specs.Replies.{no_snapshot, untraced, traced, frames, kept, groups, changed, dumped, bytes}
+use Rattle.event_model.specs.Replies.{shape, fault, unsaid}
 use Rattle.event_model.specs.State.{State}
 
 -- ---- the text of an event
@@ -41,11 +45,11 @@ frames_word some total = codes "frames " ++ decimal some ++ codes " of " ++ deci
 unfoldable pub kept_word : ℕ → List ℕ
 kept_word count = codes "ok " ++ decimal count
 
--- how many groups the statistics have
+-- how many groups the statistics have, or how many changes there are
 unfoldable pub groups_word : ℕ → List ℕ
 groups_word count = codes "groups " ++ decimal count
 
--- what stands behind the equals sign; a reply that no operation gives has no word
+-- what stands behind the equals sign; where there is no operation there is no word
 abbrev pub reply_word : PlainReply → List ℕ
 reply_word ok = codes "ok"
 reply_word null = codes "null"
@@ -61,6 +65,8 @@ reply_word (traced current most) = traced_word current most
 reply_word (frames fs total) = frames_word (length fs) total
 reply_word (kept count) = kept_word count
 reply_word (groups count first) = groups_word count
+reply_word (changed count first) = groups_word count
+reply_word (dumped text) = codes "ok"
 reply_word (bytes found) = hex_word found
 reply_word (shape v) = shape_word v
 reply_word (fault found block) = codes "fault"
@@ -118,10 +124,6 @@ class_line c =
 abbrev pub shape_lines : View → List ℕ
 shape_lines v = flat_map arena_line v.arenas ++ flat_map class_line v.classes
 
--- a frame: its file and its line
-unfoldable pub frame_word : PlainFrame → List ℕ
-frame_word f = f.file ++ codes ":" ++ decimal f.line
-
 -- a frame that a trace keeps
 unfoldable pub frame_line : PlainFrame → List ℕ
 frame_line f = codes "  " ++ frame_word f ++ line_end ∷ []
@@ -139,6 +141,43 @@ group_line g =
 -- a line for each group, the greatest first
 abbrev pub group_lines : List PlainGroup → List ℕ
 group_lines first = flat_map group_line first
+
+-- a difference, which has its sign always
+abbrev pub difference_word : ℤ → List ℕ
+difference_word (pos n) = codes "+" ++ signed_decimal (pos n)
+difference_word (negsuc n) = signed_decimal (negsuc n)
+
+-- a number, and by how much it differs
+unfoldable pub changed_word : ℕ → ℤ → List ℕ
+changed_word n difference = decimal n ++ blank ∷ difference_word difference
+
+-- a sum and a count, and by how much each differs
+unfoldable pub sums_word : ℕ → ℤ → ℕ → ℤ → List ℕ
+sums_word size size_diff count count_diff = changed_word size size_diff ++ blank ∷ changed_word count count_diff
+
+-- a change: the new size, how often its key occurs, and the key, its frames oldest first
+unfoldable pub change_line : Change → List ℕ
+change_line c =
+    codes "  " ++ sums_word c.size c.size_diff c.count c.count_diff
+    ++ blank ∷ join_with_byte blank (map frame_word c.key) ++ line_end ∷ []
+
+-- a line for each change, the greatest first
+abbrev pub change_lines : List Change → List ℕ
+change_lines first = flat_map change_line first
+
+-- the parts of a text that a line's end stands behind
+abbrev pub ended : List (List ℕ) → List (List ℕ)
+ended [] = []
+ended (rest ∷ []) = []
+ended (line ∷ next ∷ more) = line ∷ ended (next ∷ more)
+
+-- a line behind two blanks
+abbrev pub indented : List ℕ → List ℕ
+indented line = codes "  " ++ with_end line
+
+-- the lines of a text, each behind two blanks
+abbrev pub indented_lines : List ℕ → List ℕ
+indented_lines text = flat_map indented (ended (slice_split (λ b. b == line_end) text))
 
 -- the lines of a fault, and of the block that it was found in, which has this name
 abbrev pub fault_lines : Name → Fault → Option BlockReport → List ℕ
@@ -162,6 +201,8 @@ more_lines name (traced current most) = []
 more_lines name (frames fs total) = frame_lines fs
 more_lines name (kept count) = []
 more_lines name (groups count first) = group_lines first
+more_lines name (changed count first) = change_lines first
+more_lines name (dumped text) = indented_lines text
 more_lines name (bytes found) = []
 more_lines name (shape v) = shape_lines v
 more_lines name (fault found block) = fault_lines name found block

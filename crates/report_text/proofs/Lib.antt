@@ -1,3 +1,2 @@
-pub mod Decimals
 pub mod Joins
 pub mod Pieces

@@ -11,7 +11,8 @@ use Rattle.mem_base.specs.declared.trace.Rule.{Rule}
 use Rattle.trace_model.specs.Rules.{rule_word}
 use Rattle.trace_model.specs.Spelling.{blank}
 use Rattle.event_model.specs.Replies.{frame_of}
-use Rattle.report_model.specs.Report.{frame_word, pool_word, pools_word}
+use Rattle.dump_model.specs.Spelling.{frame_word}
+use Rattle.report_model.specs.Report.{pool_word, pools_word}
 use Rattle.report_text.specs.Texts.{next_rule}
 
 module _ {A : Type 0} (word : A → List ℕ) (c : ℕ) where

@@ -1,5 +1,5 @@
 -- The texts of a step and of a run's numbers, over the trace that was run.
-use Rattle.std.specs.Prelude.{◌≡◌, ℕ, List, ◌∷◌, ◌++◌, length, drop, slice_get}
+use Rattle.std.specs.Prelude.{ℕ, List, ◌∷◌, slice_get}
 use Rattle.mem_base.specs.declared.reply.Step.{Step}
 use Rattle.mem_base.specs.declared.reply.Totals.{Totals}
 use Rattle.mem_base.specs.declared.trace.Rule.{Rule}
@@ -21,10 +21,6 @@ step_text trace number step =
 -- the summary of these numbers and this status, with the name of the lock's owner
 abbrev pub summary_of : Trace → Totals → ℕ → List ℕ
 summary_of trace totals status = summary_lines (owner_word (plain trace).tracks totals.owner) totals status
-
--- what stood in a text stands in front of it still
-abbrev pub StaysInFront : List ℕ → List ℕ → Type 0
-StaysInFront old new = new ≡ old ++ drop (length old) new
 
 -- a rule with the blank before it
 abbrev pub next_rule : Rule → List ℕ

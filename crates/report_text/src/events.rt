@@ -10,11 +10,15 @@ ghost use Rattle.report_model.specs.Report.{reply_word, event_line, event_lines,
 ghost use Rattle.report_model.specs.Report.{head_line, tail_line, shape_word, arena_line, pool_word};
 ghost use Rattle.report_model.specs.Report.{pools_word, class_line, shape_lines, fault_lines, more_lines};
 ghost use Rattle.report_model.specs.Report.{block_name, frames_word, groups_word, kept_word, traced_word};
-ghost use Rattle.report_text.specs.Texts.{step_text, StaysInFront};
+ghost use Rattle.line_text.specs.Texts.{StaysInFront};
+ghost use Rattle.report_text.specs.Texts.{step_text};
 
+use crate::changes::push_change_lines;
+use crate::dumps::push_indented_lines;
 use crate::frames::push_frame_lines;
 use crate::groups::push_group_lines;
-use crate::words::{push_hex, push_name, push_number, push_op, push_wide};
+use crate::words::{push_hex, push_name, push_op};
+use line_text::{push_number, push_wide};
 use mem_base::{
     ArenaLine, BlockReport, ClassLine, Fault, List, Op, Reply, Step, TextId, Texts, Trace,
     UsedPool, View,
@@ -85,7 +89,7 @@ fn push_reply(text: &mut Vec<u8>, reply: &Reply) -> Result<(), AllocError>
     ensures err { OnErr result (StaysInFront text.old.items text.new.items) }
 {
     match reply {
-        Reply::Ok => text.extend_from_slice(b"ok"),
+        Reply::Ok | Reply::Dumped(_) => text.extend_from_slice(b"ok"),
         Reply::Null => text.extend_from_slice(b"null"),
         Reply::Busy => text.extend_from_slice(b"busy"),
         Reply::Absent => text.extend_from_slice(b"absent"),
@@ -98,11 +102,10 @@ fn push_reply(text: &mut Vec<u8>, reply: &Reply) -> Result<(), AllocError>
         Reply::Traced(current, most) => push_traced(text, *current, *most),
         Reply::Kept(count) => push_kept(text, *count),
         Reply::Frames(kept, total) => push_frame_count(text, kept.len(), *total),
-        Reply::Groups(count, _) => push_group_count(text, *count),
+        Reply::Groups(count, _) | Reply::Diffs(count, _) => push_group_count(text, *count),
         Reply::Bytes(bytes) => push_hex(text, bytes.as_slice()),
         Reply::Heap(view) => push_shape(text, view),
         Reply::Fault(_, _) => text.extend_from_slice(b"fault"),
-        Reply::Diffs(_, _) | Reply::Dumped(_) => Ok(()),
     }
 }
 
@@ -332,6 +335,8 @@ fn push_more_lines(
         Reply::Heap(view) => push_shape_lines(text, view),
         Reply::Frames(kept, _) => push_frame_lines(text, texts, kept.as_slice()),
         Reply::Groups(_, first) => push_group_lines(text, texts, first.as_slice()),
+        Reply::Diffs(_, first) => push_change_lines(text, texts, first.as_slice()),
+        Reply::Dumped(dump) => push_indented_lines(text, dump.as_slice()),
         Reply::Fault(fault, None) => push_fault_line(text, *fault),
         Reply::Fault(fault, Some(block)) => push_block(text, *fault, name, block),
         Reply::Ok
@@ -346,9 +351,7 @@ fn push_more_lines(
         | Reply::Untraced
         | Reply::Bytes(_)
         | Reply::Traced(_, _)
-        | Reply::Kept(_)
-        | Reply::Diffs(_, _)
-        | Reply::Dumped(_) => Ok(()),
+        | Reply::Kept(_) => Ok(()),
     }
 }
 

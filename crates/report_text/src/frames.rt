@@ -1,25 +1,13 @@
-//! Frames: a file and a line with a colon between, and the lines of those that a trace keeps.
+//! The lines of the frames that a trace keeps.
 ghost use Rattle.std.specs.Prelude.{◌≡◌, ◌<◌, ◌++◌, length, All, OnOk, OnErr};
 ghost use Rattle.trace_model.specs.Known.{IsKnown};
 ghost use Rattle.event_model.specs.Replies.{frame_of, frames_of};
-ghost use Rattle.report_model.specs.Report.{frame_line, frame_lines, frame_word};
-ghost use Rattle.report_text.specs.Texts.{StaysInFront};
+ghost use Rattle.report_model.specs.Report.{frame_line, frame_lines};
+ghost use Rattle.line_text.specs.Texts.{StaysInFront};
 
-use crate::words::push_number;
+use line_text::push_frame;
 use mem_base::{Frame, Texts};
 use std::alloc::AllocError;
-
-// A frame: its file, a colon and its line.
-#[tactic(auto, unfolding(report_model::specs::Report::frame_word))]
-pub(crate) fn push_frame(text: &mut Vec<u8>, texts: &Texts, frame: Frame) -> Result<(), AllocError>
-    requires { IsKnown texts.now frame.file }
-    ensures ok { OnOk result (text.new.items ≡ text.old.items ++ frame_word (frame_of texts.now frame)) }
-    ensures err { OnErr result (StaysInFront text.old.items text.new.items) }
-{
-    text.extend_from_slice(texts.get(frame.file))?;
-    text.push(b':')?;
-    push_number(text, u64::from(frame.line))
-}
 
 // A line for a frame that a trace keeps.
 #[tactic(auto, unfolding(report_model::specs::Report::frame_line))]

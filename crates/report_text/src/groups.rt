@@ -6,16 +6,16 @@ ghost use Rattle.trace_model.specs.Known.{IsKnown};
 ghost use Rattle.trace_model.specs.Spelling.{blank};
 ghost use Rattle.snapshot_model.specs.Stats.{plain_group};
 ghost use Rattle.event_model.specs.Replies.{frames_of, AreKnownFrames};
-ghost use Rattle.report_model.specs.Report.{frame_word, group_line, group_lines};
-ghost use Rattle.report_text.specs.Texts.{StaysInFront};
+ghost use Rattle.dump_model.specs.Spelling.{frame_word};
+ghost use Rattle.report_model.specs.Report.{group_line, group_lines};
+ghost use Rattle.line_text.specs.Texts.{StaysInFront};
 
-use crate::frames::push_frame;
-use crate::words::{push_number, push_wide};
+use line_text::{push_frame, push_number, push_wide};
 use mem_base::{Frame, Group, Texts};
 use std::alloc::AllocError;
 
 // The frames of a key, with blanks between.
-fn push_key(text: &mut Vec<u8>, texts: &Texts, key: &[Frame]) -> Result<(), AllocError>
+pub(crate) fn push_key(text: &mut Vec<u8>, texts: &Texts, key: &[Frame]) -> Result<(), AllocError>
     requires { All (λ f. IsKnown texts.now f.file) key.now }
     ensures ok { OnOk result (text.new.items
         ≡ text.old.items ++ join_with_byte blank (map frame_word (frames_of texts.now key.now))) }

@@ -16,7 +16,9 @@
 //! 6 t keep u s ex,top,*,*,lib/* = ok 2
 //! 7 t stats u lineno plain 1 = groups 2
 //!   30 1 read.py:7
-//! 8 t free m x = fault
+//! 8 t compare u s lineno plain 1 = groups 1
+//!   30 -10 1 -1 read.py:7
+//! 9 t free m x = fault
 //!   bad_tail 0
 //!   block x size 32
 //!   head 6dfdfdfdfdfdfdfd
@@ -37,6 +39,10 @@
 //! most: the sum of the sizes, how often the key occurs, and the key, which is frames with blanks between,
 //! the oldest first. Of a name that has no snapshot the reply is `no_snapshot`.
 //!
+//! That of `compare` counts all groups that either snapshot has; a line has the sum and by how much it differs, how
+//! often the key occurs and by how much that differs, and the key. Differences have their sign always. The reply of
+//! `dump` is `ok`, and the lines of the dump stand below it, each behind two blanks.
+//!
 //! The summary is five lines:
 //!
 //! ```text
@@ -50,6 +56,8 @@
 //! The definitions stand in the crate `report_model`.
 #![tactic(auto)]
 
+mod changes;
+mod dumps;
 mod events;
 mod frames;
 mod groups;
@@ -60,5 +68,5 @@ mod tests;
 mod words;
 
 pub use events::{event_text, push_event};
+pub use line_text::push_number;
 pub use summary::{push_summary, summary_text};
-pub use words::push_number;

@@ -12,9 +12,11 @@ ghost use Rattle.trace_model.specs.Known.{IsKnown};
 ghost use Rattle.trace_model.specs.Plain.{text_at, keep};
 ghost use Rattle.trace_model.specs.Rules.{comma, domain_word, file_word, or_star, rule_word, scope_word};
 ghost use Rattle.trace_model.specs.Spelling.{line_of, blank};
-ghost use Rattle.report_text.specs.Texts.{next_rule, StaysInFront};
+ghost use Rattle.line_text.specs.Texts.{StaysInFront};
+ghost use Rattle.report_text.specs.Texts.{next_rule};
 
-use crate::words::{push_keyword, push_name, push_number};
+use crate::words::{push_keyword, push_name};
+use line_text::push_number;
 use mem_base::{Rule, TextId, Texts};
 use std::alloc::AllocError;
 use trace_model::Keyword;

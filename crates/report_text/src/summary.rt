@@ -4,9 +4,10 @@ ghost use Rattle.trace_model.specs.Plain.{plain};
 ghost use Rattle.trace_model.specs.Known.{IsKnownTrace};
 ghost use Rattle.report_model.specs.Report.{owner_word, events_line, lock_line, blocks_line, arenas_line};
 ghost use Rattle.report_model.specs.Report.{traced_line};
-ghost use Rattle.report_text.specs.Texts.{summary_of, StaysInFront};
+ghost use Rattle.line_text.specs.Texts.{StaysInFront};
+ghost use Rattle.report_text.specs.Texts.{summary_of};
 
-use crate::words::{push_number, push_wide};
+use line_text::{push_number, push_wide};
 use mem_base::{Counts, List, Totals, Trace, TrackId};
 use std::alloc::{AllocError, Global};
 

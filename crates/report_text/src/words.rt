@@ -1,78 +1,22 @@
-//! Numbers, bytes, names, and the words of operations. An operation's line is spelt here as the trace
+//! Offsets, bytes, names, and the words of operations. An operation's line is spelt here as the trace
 //! that was read spells it, with keywords from the one table of `trace_model`.
-ghost use Rattle.std.specs.Prelude.{◌≡◌, ◌+◌, ◌%◌, ◌++◌, ◌∷◌, ◌<◌, OnOk, OnErr, decimal};
+ghost use Rattle.std.specs.Prelude.{◌≡◌, ◌++◌, ◌∷◌, ◌<◌, OnOk, OnErr, decimal};
 ghost use Rattle.std.specs.Fmt.{signed_decimal};
 ghost use Rattle.trace_model.specs.Operands.{hex_word, key_word, letter_word, mode_word, side_word, glyph};
 ghost use Rattle.trace_model.specs.Plain.{action_of, keyword_text, text_at, refuse};
-ghost use Rattle.trace_model.specs.Plain.{enter, go_to, mark, snapshot, start_tracing, stats, unmark};
+ghost use Rattle.trace_model.specs.Plain.{compare, enter, go_to, mark, snapshot, start_tracing, stats, unmark};
 ghost use Rattle.trace_model.specs.Known.{IsKnown, IsKnownOp};
 ghost use Rattle.trace_model.specs.Spelling.{line_of, blank};
-ghost use Rattle.report_text.specs.Texts.{StaysInFront};
+ghost use Rattle.line_text.specs.Texts.{StaysInFront};
 
 use crate::rules::push_keep;
 use itoa::Buffer;
+use line_text::push_number;
 use mem_base::{KeyKind, Letter, Op, Side, TextId, Texts};
 use std::alloc::AllocError;
 use trace_model::Keyword;
 
-// ---- numbers and bytes
-
-// The last digit of a number.
-fn last(n: u64) -> u8
-    ensures { result ≡ 48 + n % 10 }
-{
-    b'0' + (n % 10) as u8
-}
-
-// Adds a number of many digits.
-fn push_long(text: &mut Vec<u8>, n: u64) -> Result<(), AllocError>
-    ensures ok { OnOk result (text.new.items ≡ text.old.items ++ decimal n) }
-    ensures err { OnErr result (text.new.items ≡ text.old.items) }
-{
-    let mut buffer = Buffer::new();
-    text.extend_from_slice(buffer.format(n).as_bytes())
-}
-
-/// Adds a number in decimal to the end of a text. The error is that there was no memory for it, and
-/// the text is as it was. Most numbers have few digits, which are written where they will stand.
-#[tactic(auto, using(crate::proofs::Decimals::few_digits))]
-pub fn push_number(text: &mut Vec<u8>, n: u64) -> Result<(), AllocError>
-    ensures ok { OnOk result (text.new.items ≡ text.old.items ++ decimal n) }
-    ensures err { OnErr result (text.new.items ≡ text.old.items) }
-{
-    match n {
-        0..=9 => text.extend_from_slice(&[last(n)]),
-        10..=99 => text.extend_from_slice(&[last(n / 10), last(n)]),
-        100..=999 => text.extend_from_slice(&[last(n / 100), last(n / 10), last(n)]),
-        1000..=9999 => {
-            text.extend_from_slice(&[last(n / 1000), last(n / 100), last(n / 10), last(n)])
-        }
-        10_000..=99_999 => text.extend_from_slice(&[
-            last(n / 10_000),
-            last(n / 1000),
-            last(n / 100),
-            last(n / 10),
-            last(n),
-        ]),
-        100_000..=999_999 => text.extend_from_slice(&[
-            last(n / 100_000),
-            last(n / 10_000),
-            last(n / 1000),
-            last(n / 100),
-            last(n / 10),
-            last(n),
-        ]),
-        _ => push_long(text, n),
-    }
-}
-
-pub(crate) fn push_wide(text: &mut Vec<u8>, n: u128) -> Result<(), AllocError>
-    ensures ok { OnOk result (text.new.items ≡ text.old.items ++ decimal n) }
-    ensures err { OnErr result (StaysInFront text.old.items text.new.items) }
-{
-    let mut buffer = Buffer::new();
-    text.extend_from_slice(buffer.format(n).as_bytes())
-}
+// ---- offsets and bytes
 
 fn push_offset(text: &mut Vec<u8>, n: &i64) -> Result<(), AllocError>
     ensures ok { OnOk result (text.new.items ≡ text.old.items ++ signed_decimal n.now) }
@@ -246,6 +190,22 @@ fn push_snapshot(text: &mut Vec<u8>, texts: &Texts, name: TextId) -> Result<(), 
     push_name(text, texts, name)
 }
 
+// A blank and by what traces are grouped, whether each kept frame counts, and how many lines there are at most.
+fn push_grouping(
+    text: &mut Vec<u8>,
+    key: KeyKind,
+    cumulative: bool,
+    most: u32,
+) -> Result<(), AllocError>
+    ensures ok { OnOk result (text.new.items ≡ text.old.items
+        ++ blank ∷ key_word key ++ blank ∷ mode_word cumulative ++ blank ∷ decimal most) }
+    ensures err { OnErr result (StaysInFront text.old.items text.new.items) }
+{
+    push_key_kind(text, key)?;
+    push_mode(text, cumulative)?;
+    push_operand(text, u64::from(most))
+}
+
 // The line of statistics, without its end.
 fn push_stats(
     text: &mut Vec<u8>,
@@ -262,9 +222,28 @@ fn push_stats(
 {
     push_keyword(text, Keyword::Stats)?;
     push_name(text, texts, name)?;
-    push_key_kind(text, key)?;
-    push_mode(text, cumulative)?;
-    push_operand(text, u64::from(most))
+    push_grouping(text, key, cumulative, most)
+}
+
+// The line of a comparison, without its end. The names are those of the new snapshot and of the old one.
+fn push_compare(
+    text: &mut Vec<u8>,
+    texts: &Texts,
+    names: (TextId, TextId),
+    key: KeyKind,
+    cumulative: bool,
+    most: u32,
+) -> Result<(), AllocError>
+    requires new { IsKnown texts.now names.0 }
+    requires old { IsKnown texts.now names.1 }
+    ensures ok { OnOk result (text.new.items ≡ text.old.items
+        ++ line_of (compare (text_at texts.now names.0) (text_at texts.now names.1) key cumulative most)) }
+    ensures err { OnErr result (StaysInFront text.old.items text.new.items) }
+{
+    push_keyword(text, Keyword::Compare)?;
+    push_name(text, texts, names.0)?;
+    push_name(text, texts, names.1)?;
+    push_grouping(text, key, cumulative, most)
 }
 
 // The line of an operation, without its end.
@@ -345,8 +324,19 @@ pub(crate) fn push_op(text: &mut Vec<u8>, texts: &Texts, op: &Op) -> Result<(), 
             *cumulative,
             *most,
         ),
+        Op::Compare(new, old, key, cumulative, most) => push_compare(
+            text,
+            texts,
+            (*new, *old),
+            *key,
+            *cumulative,
+            *most,
+        ),
+        Op::Dump(name) => {
+            push_keyword(text, Keyword::Dump)?;
+            push_name(text, texts, *name)
+        }
         Op::Heap => push_keyword(text, Keyword::Heap),
         Op::Refuse(side, number) => push_refusal(text, *side, *number),
-        Op::Compare(_, _, _, _, _) | Op::Dump(_) => unreachable!(),
     }
 }

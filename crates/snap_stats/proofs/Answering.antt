@@ -30,7 +30,8 @@ use Rattle.trace_table.specs.declared.snapshot.Row.{Row}
 use Rattle.snap_stats.specs.declared.sums.Sum.{Sum}
 use Rattle.snap_stats.specs.Answers.{kind_of}
 use Rattle.snap_stats.specs.Sums.{frame_key, frame_parts, parts_at, parts_of, counts, once, group_by, same_frame, same_id, AddsUp, AreSound, Respects, IsSound}
-use Rattle.snap_stats.proofs.Totals.{AreSums, all_of, one_of, same_is}
+use Rattle.snap_stats.proofs.Firsts.{all_of, one_of}
+use Rattle.snap_stats.proofs.Totals.{AreSums, same_is}
 use Rattle.snap_stats.proofs.Weighing.{same, weight_of, occur_sizes, occur_counts, wholes_weigh, frames_weigh}
 
 -- ---- a key that has a sum was added
@@ -49,7 +50,7 @@ module _ {K : Type 0} (eq : K → K → Bool) (good : K → Bool) (respects : Re
       by true e n some le = e
       by false e n some le = absurd (omega arith)
 
-same_ids : (a b : TbId) → same_id a b ≡ true → a.0 ≡ b.0
+pub same_ids : (a b : TbId) → same_id a b ≡ true → a.0 ≡ b.0
 same_ids a b e = (Decides-eqb a.0 b.0).0 e
 
 both : (x y : Bool) → (x && y) ≡ true → (x ≡ true) × (y ≡ true)
@@ -59,6 +60,16 @@ both false y h = absurd (true≢false (sym h))
 
 same_files : (a b : Frame) → same_frame a b ≡ true → a.file.0 ≡ b.file.0
 same_files a b e = (Decides-eqb a.file.0 b.file.0).0 (both (a.file.0 == b.file.0) (a.line == b.line) e).0
+
+pub frames_mean : (a b : Frame) → same_frame a b ≡ true → a ≡ b
+frames_mean a b e =
+    let parts = both (a.file.0 == b.file.0) (a.line == b.line) e in
+    let file = (Decides-eqb a.file.0 b.file.0).0 parts.0 in
+    let line = (Decides-eqb a.line b.line).0 parts.1 in
+    λ i. record { file = record { 0 = file i }; line = line i }
+
+pub ids_mean : (a b : TbId) → same_id a b ≡ true → a ≡ b
+ids_mean a b e = let n = same_ids a b e in λ i. record { 0 = n i }
 
 below : (n m : ℕ) → ltb n m ≡ true → n < m
 below n m e = ltb-true n m e
@@ -93,7 +104,7 @@ at_counts by_line s [] n h = omega arith
 at_counts by_line s (f ∷ fs) zero h = absurd (omega arith)
 at_counts by_line s (f ∷ fs) (suc n) h = let e = at_counts by_line s fs n (omega arith) in omega (arith, e)
 
-in_table : (P : List Frame → Type 0) (table : List (List Frame)) (id : TbId) → id.0 < length table → All P table → P (traceback_at table id)
+pub in_table : (P : List Frame → Type 0) (table : List (List Frame)) (id : TbId) → id.0 < length table → All P table → P (traceback_at table id)
 in_table P table id lt all = subst P (sym (unwrap_or-slice_get table id.0 [])) (all id.0 [] lt)
 
 parts_few : (by_line cumulative : Bool) (table : List (List Frame)) (sums : List (TbId × Sum))
@@ -107,16 +118,17 @@ parts_few by_line cumulative table (s ∷ sums) short known =
     let this = at_counts by_line s.1 (frames_seen cumulative fs) (2 ^ 16) (omega (arith, few, seen_short cumulative fs)) in
     omega (arith, rest, this, tally-append (λ p. once p.0 * p.1.count) (parts_at by_line s.1 (frames_seen cumulative fs)) (frame_parts by_line cumulative table sums))
 
-rows_many : (rows : List Row) → counts once (parts_of rows) ≡ length rows
+pub rows_many : (rows : List Row) → counts once (parts_of rows) ≡ length rows
 rows_many [] = refl
 rows_many (r ∷ rs) = let e = rows_many rs in omega (arith, e)
 
 -- the sums of frames stay small
-pub parts_fit : (by_line cumulative : Bool) (texts : List Name) (table : List (List Frame)) (rows : List Row) (sums : List (TbId × Sum))
-    → IsHeld texts table rows → AddsUp same_id (parts_of rows) sums → counts once (frame_parts by_line cumulative table sums) < 2 ^ 64
-parts_fit by_line cumulative texts table rows sums held adds =
-    let few = parts_few by_line cumulative table sums held.short (sums_known table rows sums held.traced adds) in
-    omega (arith, few, adds.count once (λ a b e. refl), rows_many rows, held.few)
+pub parts_fit : (by_line cumulative : Bool) (table : List (List Frame)) (rows : List Row) (sums : List (TbId × Sum))
+    → length rows < 2 ^ 32 → AreTraced table rows → All (λ frames. length frames ≤ 2 ^ 16) table
+    → AddsUp same_id (parts_of rows) sums → counts once (frame_parts by_line cumulative table sums) < 2 ^ 63
+parts_fit by_line cumulative table rows sums few traced short adds =
+    let many = parts_few by_line cumulative table sums short (sums_known table rows sums traced adds) in
+    omega (arith, many, adds.count once (λ a b e. refl), rows_many rows, few)
 
 -- ---- the files of frames
 
@@ -186,6 +198,20 @@ ids_tell a b e = (Decides-eqb a.0 b.0).1 e
 frames_tell : (a b : Frame) → a ≡ b → same_frame a b ≡ true
 frames_tell a b e = λ i. (Decides-eqb a.file.0 b.file.0).1 (ap (λ (f : Frame). f.file.0) e) i && (Decides-eqb a.line b.line).1 (ap (λ (f : Frame). f.line) e) i
 
+-- tracebacks of one name are one
+pub wholes_tell : (texts : List Name) (table : List (List Frame)) → TextsDistinct texts → IsTable table → All (AreAmong (length texts)) table
+    → (a b : TbId) → a.0 < length table → b.0 < length table
+    → frames_of texts (traceback_at table a) ≡ frames_of texts (traceback_at table b) → same_id a b ≡ true
+wholes_tell texts table td is among a b la lb e =
+    let frames = same_frames texts td (traceback_at table a) (traceback_at table b) (in_table (AreAmong (length texts)) table a la among) (in_table (AreAmong (length texts)) table b lb among) e in
+    ids_tell a b (is.distinct a.0 b.0 (traceback_at table a) (there table a.0 [] la) (there table b.0 [] lb ∙ ap (λ (x : List Frame). Some x) (sym frames)))
+
+-- and so are frames
+pub singles_tell : (texts : List Name) → TextsDistinct texts → (a b : Frame) → a.file.0 < length texts → b.file.0 < length texts
+    → frames_of texts (a ∷ []) ≡ frames_of texts (b ∷ []) → same_frame a b ≡ true
+singles_tell texts td a b la lb e =
+    frames_tell a b (one_frame texts td a b la lb (ap (λ (k : Key). get_or k 0 (frame_of texts a)) e))
+
 -- ---- no key has two groups
 
 most_one : (k key : Key) → same k key ≤ 1
@@ -254,6 +280,9 @@ module _ (texts : List Name) (table : List (List Frame)) (rows : List Row) (sums
   known : AllByRecursion (λ s. s.0.0 < length table) sums
   known = sums_known table rows sums held.traced adds
 
+  pub is_known : (s : TbId × Sum) → Has s sums → s.0.0 < length table
+  is_known s h = one_of (λ (x : TbId × Sum). x.0.0 < length table) sums s known h
+
   respects_all : (w : TbId → ℕ) → Respects same_id w
   respects_all w a b e = let n = same_ids a b e in λ i. w (record { 0 = n i })
 
@@ -265,11 +294,7 @@ module _ (texts : List Name) (table : List (List Frame)) (rows : List Row) (sums
       (λ k. wholes_weigh texts table (λ s. s.count) cumulative k sums ∙ adds.count (weight_of texts table Traceback cumulative k) (respects_all (weight_of texts table Traceback cumulative k)) ∙ sym (occur_counts texts table Traceback cumulative k rows))
     where
       tells : (a b : TbId × Sum) → Has a sums → Has b sums → frames_of texts (traceback_at table a.0) ≡ frames_of texts (traceback_at table b.0) → same_id a.0 b.0 ≡ true
-      tells a b h g e =
-          let la = one_of (λ (s : TbId × Sum). s.0.0 < length table) sums a known h in
-          let lb = one_of (λ (s : TbId × Sum). s.0.0 < length table) sums b known g in
-          let frames = same_frames texts td (traceback_at table a.0) (traceback_at table b.0) (in_table (AreAmong (length texts)) table a.0 la held.among) (in_table (AreAmong (length texts)) table b.0 lb held.among) e in
-          ids_tell a.0 b.0 (is.distinct a.0.0 b.0.0 (traceback_at table a.0) (there table a.0.0 [] la) (there table b.0.0 [] lb ∙ ap (λ (x : List Frame). Some x) (sym frames)))
+      tells a b h g e = wholes_tell texts table td is held.among a.0 b.0 (is_known a h) (is_known b g) e
 
   -- whatever the kind is called, and whatever list the groups are
   pub wholes_come : IsTable table → KeysDistinct same_id (keys_of sums) → (kind : KeyKind) (cumulative : Bool) (groups : List Group)
@@ -286,7 +311,7 @@ module _ (texts : List Name) (table : List (List Frame)) (rows : List Row) (sums
       subst (λ (x : Group). AreAmong (length texts) x.key) (sym s.2) (in_table (AreAmong (length texts)) table s.0.0 lt held.among)
 
   module _ (by_line cumulative : Bool) (of_frames : List (Frame × Sum)) (adds_frames : AddsUp same_frame (frame_parts by_line cumulative table sums) of_frames) where
-    in_texts : (s : Frame × Sum) → Has s of_frames → s.0.file.0 < length texts
+    pub in_texts : (s : Frame × Sum) → Has s of_frames → s.0.file.0 < length texts
     in_texts = frames_among (length texts) (frame_parts by_line cumulative table sums) of_frames adds_frames (parts_among (length texts) by_line cumulative table sums held.among known)
 
     singles_are : KeysDistinct same_frame (keys_of of_frames)
@@ -299,14 +324,10 @@ module _ (texts : List Name) (table : List (List Frame)) (rows : List Row) (sums
         ∙ adds.count (weight_of texts table (kind_of by_line) cumulative k) (respects_all (weight_of texts table (kind_of by_line) cumulative k)) ∙ sym (occur_counts texts table (kind_of by_line) cumulative k rows))
       where
         respects_frames : (w : Frame → ℕ) → Respects same_frame w
-        respects_frames w a b e =
-            let parts = both (a.file.0 == b.file.0) (a.line == b.line) e in
-            let file = (Decides-eqb a.file.0 b.file.0).0 parts.0 in
-            let line = (Decides-eqb a.line b.line).0 parts.1 in
-            λ i. w (record { file = record { 0 = file i }; line = line i })
+        respects_frames w a b e = ap w (frames_mean a b e)
 
         tells : (a b : Frame × Sum) → Has a of_frames → Has b of_frames → frames_of texts (a.0 ∷ []) ≡ frames_of texts (b.0 ∷ []) → same_frame a.0 b.0 ≡ true
-        tells a b h g e = frames_tell a.0 b.0 (one_frame texts td a.0 b.0 (in_texts a h) (in_texts b g) (ap (λ (k : Key). get_or k 0 (frame_of texts a.0)) e))
+        tells a b h g e = singles_tell texts td a.0 b.0 (in_texts a h) (in_texts b g) e
 
     pub singles_come : KeysDistinct same_frame (keys_of of_frames) → (kind : KeyKind) (groups : List Group)
         → kind_of by_line ≡ kind → groups ≡ map (group_by (λ f. f ∷ [])) of_frames

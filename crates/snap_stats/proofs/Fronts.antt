@@ -1,7 +1,9 @@
--- A front of groups in order.
+-- A front of what is put in order.
 use Rattle.std.proofs.Common.{◌≡◌, ℕ, zero, suc, ◌+◌, ◌<◌, List, [], ◌∷◌, ◌++◌, map, length, get_or, false, refl, sym, subst, ◌∙◌}
 use Rattle.std.proofs.Common.{arith, inl, inr}
+use Rattle.std.specs.declared.cmp.Ordering.{Ordering}
 use Rattle.std.specs.Ordering.{is_lt}
+use Rattle.std.specs.Cmp.{IsTotalOrder}
 use Rattle.std.specs.List.Sorted.{IsPermutation, IsSplitAround, IsSorted}
 use Rattle.std.proofs.lemmas.List.{length-map, map-append, append-nil}
 use Rattle.std.proofs.lemmas.List.Sorted.{ranks_by, IsPermutation-map, IsPermutation-trans, IsPermutation-append_left, IsPermutation-sym}
@@ -10,12 +12,8 @@ use Rattle.std.proofs.lemmas.List.Sums.{sum_by-cons}
 use Rattle.std.specs.List.{sum_by}
 use Rattle.extents.specs.Sums.{tally, Has}
 use Rattle.extents.proofs.CallerLemmas.{has_at, tally_length}
-use Rattle.mem_base.specs.Name.{Name}
-use Rattle.mem_base.specs.declared.reply.Group.{Group}
-use Rattle.snapshot_model.specs.Stats.{group_cmp, plain_group}
-use Rattle.snapshot_model.proofs.CallerLemmas.{group_cmp_total, from_map}
-use Rattle.snap_stats.specs.declared.groups.Summed.{Summed}
-use Rattle.snap_stats.specs.Groups.{whole, AreInOrder, IsFrontOf}
+use Rattle.snapshot_model.proofs.CallerLemmas.{from_map}
+use Rattle.snap_stats.specs.Groups.{AreInOrder, IsFrontOf}
 
 -- ---- members and permutations
 
@@ -43,63 +41,61 @@ module _ {X : Type 0} where
   mapped_at f (x ∷ xs) zero d e h = refl
   mapped_at f (x ∷ xs) (suc k) d e h = mapped_at f xs k d e (omega arith)
 
--- ---- whole groups
+-- ---- what stands elsewhere, with all that belongs to it
 
-abbrev InOrder : List Name → List Summed → Type 0
-InOrder texts xs = IsSorted (λ a b. group_cmp (plain_group texts (whole b)) (plain_group texts (whole a))) xs
-
-pub whole_in_order : (texts : List Name) (xs : List Summed) → InOrder texts xs → AreInOrder texts (map whole xs)
-whole_in_order texts [] sorted = λ k d z lt. absurd (omega arith)
-whole_in_order texts (x ∷ xs) sorted = λ k d z lt.
-    let all = x ∷ xs in
-    let long : length (map whole all) ≡ length all = length-map all whole in
-    let a = mapped_at whole all k d x (omega (arith, long)) in
-    let b = mapped_at whole all (k + 1) d x (omega (arith, long)) in
-    let h = sorted k x z (omega (arith, long)) in
-    (λ i. is_lt (group_cmp (plain_group texts (a i)) (plain_group texts (b i)))) ∙ h
-
-pub as_many : (xs : List Summed) (gs : List Group) → IsPermutation (map whole xs) gs → length gs ≡ length xs
-as_many xs gs p =
+pub as_many : {S G : Type 0} (whole : S → G) (xs : List S) (gs : List G) → IsPermutation (map whole xs) gs → length gs ≡ length xs
+as_many whole xs gs p =
     sym (tally_length gs) ∙ tally_moved (λ _. 1) (map whole xs) gs p ∙ tally_length (map whole xs) ∙ length-map xs whole
 
--- all groups are a front with nothing behind
-pub is_whole : (texts : List Name) (groups all : List Group) → IsPermutation groups all → AreInOrder texts all → IsFrontOf texts groups all
-is_whole texts groups all same sorted = record {
-  rest = [];
-  sorted = sorted;
-  same = subst (IsPermutation groups) (sym (append-nil all)) same;
-  above = λ a b h k. absurd k;
-}
+module _ {S G P : Type 0} (cmp : P → P → Ordering) (whole : S → G) (plain : G → P) where
+  pub whole_in_order : (xs : List S) → IsSorted (λ a b. cmp (plain (whole b)) (plain (whole a))) xs → AreInOrder cmp plain (map whole xs)
+  whole_in_order [] sorted = λ k d z lt. absurd (omega arith)
+  whole_in_order (x ∷ xs) sorted = λ k d z lt.
+      let all = x ∷ xs in
+      let long : length (map whole all) ≡ length all = length-map all whole in
+      let a = mapped_at whole all k d x (omega (arith, long)) in
+      let b = mapped_at whole all (k + 1) d x (omega (arith, long)) in
+      let h = sorted k x z (omega (arith, long)) in
+      (λ i. is_lt (cmp (plain (a i)) (plain (b i)))) ∙ h
 
--- what stands before the place that the groups are parted at, in order
-pub is_front :
-    (texts : List Name) (groups front back : List Summed) (x : Summed) (first : List Group)
-    → IsPermutation groups (front ++ x ∷ back)
-    → IsSplitAround (λ a b. group_cmp (plain_group texts (whole b)) (plain_group texts (whole a))) front x back
-    → IsPermutation (map whole front) first → AreInOrder texts first → IsFrontOf texts (map whole groups) first
-is_front texts groups front back x first all split perm sorted =
-    record { rest = map whole (x ∷ back); sorted = sorted; same = together; above = above }
-  where
-    parted : IsPermutation (map whole groups) (map whole front ++ map whole (x ∷ back))
-    parted = subst (IsPermutation (map whole groups)) (map-append whole front (x ∷ back)) (IsPermutation-map whole groups (front ++ x ∷ back) all)
+  -- all are a front with nothing behind
+  pub is_whole : (these all : List G) → IsPermutation these all → AreInOrder cmp plain all → IsFrontOf cmp plain these all
+  is_whole these all same sorted = record {
+    rest = [];
+    sorted = sorted;
+    same = subst (IsPermutation these) (sym (append-nil all)) same;
+    above = λ a b h k. absurd k;
+  }
 
-    together : IsPermutation (map whole groups) (first ++ map whole (x ∷ back))
-    together = IsPermutation-trans (map whole groups) (map whole front ++ map whole (x ∷ back)) (first ++ map whole (x ∷ back)) parted (IsPermutation-append_left (map whole (x ∷ back)) (map whole front) first perm)
+  -- what stands before the place that these are parted at, in order
+  pub is_front :
+      IsTotalOrder cmp → (these front back : List S) (x : S) (first : List G)
+      → IsPermutation these (front ++ x ∷ back)
+      → IsSplitAround (λ a b. cmp (plain (whole b)) (plain (whole a))) front x back
+      → IsPermutation (map whole front) first → AreInOrder cmp plain first → IsFrontOf cmp plain (map whole these) first
+  is_front total these front back x first all split perm sorted =
+      record { rest = map whole (x ∷ back); sorted = sorted; same = together; above = above }
+    where
+      parted : IsPermutation (map whole these) (map whole front ++ map whole (x ∷ back))
+      parted = subst (IsPermutation (map whole these)) (map-append whole front (x ∷ back)) (IsPermutation-map whole these (front ++ x ∷ back) all)
 
-    above : (a b : Group) → Has a first → Has b (map whole (x ∷ back)) → is_lt (group_cmp (plain_group texts a) (plain_group texts b)) ≡ false
-    above a b h k =
-        let r = from_map whole a front (has_moved a first (map whole front) (IsPermutation-sym (map whole front) first perm) h) in
-        let p = place_of r.0 front r.1 in
-        let s = from_map whole b (x ∷ back) k in
-        let order = ranks_by group_cmp_total (plain_group texts) in
-        let over : is_lt (group_cmp (plain_group texts (whole r.0)) (plain_group texts (whole x))) ≡ false
-        = subst (λ (z : Summed). is_lt (group_cmp (plain_group texts (whole z)) (plain_group texts (whole x))) ≡ false) p.2 (split.0 p.0 r.0 p.1) in
-        let under : is_lt (group_cmp (plain_group texts (whole r.0)) (plain_group texts (whole s.0))) ≡ false = elim s.1 [
-          | inl e ↦ subst (λ (z : Summed). is_lt (group_cmp (plain_group texts (whole r.0)) (plain_group texts (whole z))) ≡ false) e over
-          | inr m ↦
-              let q = place_of s.0 back m in
-              let last : is_lt (group_cmp (plain_group texts (whole x)) (plain_group texts (whole s.0))) ≡ false
-              = subst (λ (z : Summed). is_lt (group_cmp (plain_group texts (whole x)) (plain_group texts (whole z))) ≡ false) q.2 (split.1 q.0 s.0 q.1) in
-              order.chain (whole r.0) (whole x) (whole s.0) over last
-        ] in
-        (λ i. is_lt (group_cmp (plain_group texts (r.2 i)) (plain_group texts (s.2 i)))) ∙ under
+      together : IsPermutation (map whole these) (first ++ map whole (x ∷ back))
+      together = IsPermutation-trans (map whole these) (map whole front ++ map whole (x ∷ back)) (first ++ map whole (x ∷ back)) parted (IsPermutation-append_left (map whole (x ∷ back)) (map whole front) first perm)
+
+      above : (a b : G) → Has a first → Has b (map whole (x ∷ back)) → is_lt (cmp (plain a) (plain b)) ≡ false
+      above a b h k =
+          let r = from_map whole a front (has_moved a first (map whole front) (IsPermutation-sym (map whole front) first perm) h) in
+          let p = place_of r.0 front r.1 in
+          let s = from_map whole b (x ∷ back) k in
+          let order = ranks_by total plain in
+          let over : is_lt (cmp (plain (whole r.0)) (plain (whole x))) ≡ false
+          = subst (λ (z : S). is_lt (cmp (plain (whole z)) (plain (whole x))) ≡ false) p.2 (split.0 p.0 r.0 p.1) in
+          let under : is_lt (cmp (plain (whole r.0)) (plain (whole s.0))) ≡ false = elim s.1 [
+            | inl e ↦ subst (λ (z : S). is_lt (cmp (plain (whole r.0)) (plain (whole z))) ≡ false) e over
+            | inr m ↦
+                let q = place_of s.0 back m in
+                let last : is_lt (cmp (plain (whole x)) (plain (whole s.0))) ≡ false
+                = subst (λ (z : S). is_lt (cmp (plain (whole x)) (plain (whole z))) ≡ false) q.2 (split.1 q.0 s.0 q.1) in
+                order.chain (whole r.0) (whole x) (whole s.0) over last
+          ] in
+          (λ i. is_lt (cmp (plain (r.2 i)) (plain (s.2 i)))) ∙ under

@@ -1,7 +1,11 @@
 mod Adding
 mod Answering
+mod Between
+mod Changing
 mod Comparing
 mod Framing
+mod Firsts
 mod Fronts
+mod Numbers
 mod Totals
 mod Weighing

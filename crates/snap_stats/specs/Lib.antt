@@ -1,3 +1,4 @@
 pub mod Sums
 pub mod Groups
+pub mod Pairs
 pub mod Answers

@@ -1,5 +1,5 @@
 -- Sums by key, and what rows add to them.
-use Rattle.std.specs.Prelude.{◌≡◌, ℕ, ◌*◌, ◌^◌, ◌≤◌, ◌==◌, ◌&&◌, Bool, true, false, List, [], ◌∷◌, ◌++◌, map}
+use Rattle.std.specs.Prelude.{◌≡◌, ℕ, ◌*◌, ◌^◌, ◌<◌, ◌≤◌, ◌==◌, ◌&&◌, Bool, true, false, List, [], ◌∷◌, ◌++◌, map}
 use Rattle.std.specs.List.{AllByRecursion}
 use Rattle.mem_base.specs.declared.reply.Frame.{Frame}
 use Rattle.mem_base.specs.declared.reply.Group.{Group}
@@ -14,6 +14,11 @@ use Rattle.snap_stats.specs.declared.sums.Sum.{Sum}
 pub record IsSound (s : Sum) : Type 0 where
   pub some : 1 ≤ s.count
   pub small : s.size ≤ s.count * 2 ^ 64
+
+-- a sum so small that what it differs from another by has a number
+pub record IsSmall (s : Sum) : Type 0 where
+  pub size : s.size < 2 ^ 127
+  pub count : s.count < 2 ^ 63
 
 module _ {K : Type 0} where
   -- all sizes, each as often as its key weighs
@@ -73,6 +78,13 @@ frame_parts by_line cumulative table [] = []
 frame_parts by_line cumulative table (s ∷ sums) =
     parts_at by_line s.1 (frames_seen cumulative (traceback_at table s.0))
     ++ frame_parts by_line cumulative table sums
+
+-- these are the sums of the frames that count for the rows, whose tracebacks are added up first
+pub record AreOfFrames (by_line cumulative : Bool) (table : List (List Frame)) (rows : List Row)
+    (sums : List (Frame × Sum)) : Type 0 where
+  pub tracebacks : List (TbId × Sum)
+  pub added : AddsUp same_id (parts_of rows) tracebacks
+  pub spread : AddsUp same_frame (frame_parts by_line cumulative table tracebacks) sums
 
 -- ---- groups
 

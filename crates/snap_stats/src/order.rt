@@ -42,8 +42,8 @@ fn compare_frames(texts: &Texts, a: Frame, b: Frame) -> Ordering
     files.then(a.line.cmp(&b.line))
 }
 
-// Keys by their first frames that differ.
-fn compare_keys(texts: &Texts, a: &[Frame], b: &[Frame]) -> Ordering
+/// Keys by their first frames that differ.
+pub fn compare_keys(texts: &Texts, a: &[Frame], b: &[Frame]) -> Ordering
     ensures { result ≡ key_cmp (frames_of texts.now a.now) (frames_of texts.now b.now) }
 {
     let mut i = 0;
@@ -100,7 +100,7 @@ fn all_in_order(
     groups: &mut [Summed<'_>],
 ) -> Result<List<Group>, AllocError>
     ensures same { IfOk result (λ gs. IsPermutation (map whole groups.old) gs) }
-    ensures sorted { IfOk result (AreInOrder texts.now) }
+    ensures sorted { IfOk result (AreInOrder group_cmp (plain_group texts.now)) }
 {
     groups.sort_unstable_by(|a, b| compare_groups(texts, b, a));
     let answer = whole_groups(alloc, groups)?;
@@ -115,7 +115,7 @@ pub fn first_in_order(
     most: usize,
 ) -> Result<List<Group>, AllocError>
     ensures len { IfOk result (λ gs. length gs ≡ min most (length groups.old)) }
-    ensures front { IfOk result (IsFrontOf texts.now (map whole groups.old)) }
+    ensures front { IfOk result (IsFrontOf group_cmp (plain_group texts.now) (map whole groups.old)) }
 {
     if most >= groups.len() {
         let all = all_in_order(alloc, texts, groups)?;

@@ -4,7 +4,7 @@ ghost use Rattle.std.specs.List.{AllByRecursion};
 ghost use Rattle.mem_base.specs.declared.trace.KeyKind.TheVariants as kinds;
 ghost use Rattle.frame_stack.specs.Callers.{AreAmong};
 ghost use Rattle.snapshot_model.specs.Occurrences.{occurrences};
-ghost use Rattle.snapshot_model.specs.Stats.{plain_group, stats_of};
+ghost use Rattle.snapshot_model.specs.Stats.{group_cmp, plain_group, stats_of};
 ghost use Rattle.trace_table.specs.Plain.{plain_rows, IsHeld};
 ghost use Rattle.snap_stats.specs.Answers.{kind_of};
 ghost use Rattle.snap_stats.specs.Groups.{whole, IsFrontOf};
@@ -24,8 +24,8 @@ pub struct Grouping {
     pub cumulative: bool,
 }
 
-// Where single frames are keys, whether their lines are part of them.
-fn has_lines(key: KeyKind) -> Option<bool>
+/// Where single frames are keys, whether their lines are part of them.
+pub fn has_lines(key: KeyKind) -> Option<bool>
     ensures some { IfSome result (λ by_line. kind_of by_line ≡ key) }
     ensures none { IfNone result (key ≡ kinds.Traceback) }
 {
@@ -45,7 +45,7 @@ fn count_and_first(
 ) -> Result<(u64, List<Group>), AllocError>
     ensures count { IfOk result (λ r. r.0 ≡ length (map whole groups.old)) }
     ensures len { IfOk result (λ r. length r.1 ≡ min most (length (map whole groups.old))) }
-    ensures front { IfOk result (λ r. IsFrontOf texts.now (map whole groups.old) r.1) }
+    ensures front { IfOk result (λ r. IsFrontOf group_cmp (plain_group texts.now) (map whole groups.old) r.1) }
 {
     let count = groups.len() as u64;
     let first = first_in_order(alloc, texts, groups, most as usize)?;
@@ -72,15 +72,16 @@ pub fn first_statistics(
     // The lengths of the tables say that no text and no traceback stands twice.
     let _texts = texts.len();
     let _tracebacks = table.len();
-    let sums = sums_by_traceback(alloc, s.rows.as_slice())?;
+    let rows = s.rows.as_slice();
     match has_lines(by.key) {
         Some(by_line) => {
-            let by_frame = sums_by_frame(alloc, &sums, by_line, by.cumulative, table)?;
+            let by_frame = sums_by_frame(alloc, rows, by_line, by.cumulative, table)?;
             let mut groups = frames_summed(alloc, &by_frame)?;
             let answer = count_and_first(alloc, texts, &mut groups, most)?;
             Ok(answer)
         },
         None => {
+            let sums = sums_by_traceback(alloc, rows)?;
             let mut groups = tracebacks_summed(alloc, &sums, table)?;
             let answer = count_and_first(alloc, texts, &mut groups, most)?;
             Ok(answer)

@@ -10,12 +10,14 @@
 //!  20, tb 2      tb 2    20, 1      b:7   130, 2
 //!  30, tb 0                         a:4    20, 1
 //! ```
-ghost use Rattle.std.specs.Prelude.{◌≡◌, ◌+◌, ◌<◌, ◌^◌, ◌++◌, ◌∷◌, [], length, List, IfOk, OnOk};
+ghost use Rattle.std.specs.Prelude.{◌≡◌, ◌+◌, ◌<◌, ◌^◌, ◌++◌, ◌∷◌, [], length, All, List, IfOk, OnOk};
 ghost use Rattle.std.specs.List.{AllByRecursion};
 ghost use Rattle.mem_base.specs.declared.reply.Frame.{Frame};
+ghost use Rattle.frame_stack.specs.Tracebacks.{IsShort};
 ghost use Rattle.snapshot_model.specs.Rules.{frames_seen};
+ghost use Rattle.trace_table.specs.Plain.{AreTraced};
 ghost use Rattle.snap_stats.specs.Sums.{counts, once, frame_key, frame_parts, parts_at, parts_of, same_frame, same_id};
-ghost use Rattle.snap_stats.specs.Sums.{AddsUp, AreSound, IsSound};
+ghost use Rattle.snap_stats.specs.Sums.{AddsUp, AreOfFrames, AreSound, IsSound};
 
 use frame_stack::{TbId, Tracebacks};
 use indexmap::IndexMap;
@@ -115,8 +117,8 @@ fn add_frames(
     Ok(())
 }
 
-/// The sum of each frame that counts for one of the tracebacks, by its line or by its file alone.
-pub fn sums_by_frame(
+// The sum of each frame that counts for one of the tracebacks, by its line or by its file alone.
+fn spread(
     alloc: Global,
     sums: &IndexMap<TbId, Sum>,
     by_line: bool,
@@ -134,5 +136,23 @@ pub fn sums_by_frame(
         let frames = frames_seen(cumulative, table.frames(*id));
         add_frames(&mut by_frame, by_line, frames, *sum)?;
     }
+    Ok(by_frame)
+}
+
+/// The sum of each frame that counts for a row, by its line or by its file alone.
+pub fn sums_by_frame(
+    alloc: Global,
+    rows: &[Row],
+    by_line: bool,
+    cumulative: bool,
+    table: &Tracebacks,
+) -> Result<IndexMap<Frame, Sum>, AllocError>
+    requires few { length rows.now < 2 ^ 32 }
+    requires traced { AreTraced table.now rows.now }
+    requires short { All IsShort table.now }
+    ensures { IfOk result (λ m. AreOfFrames by_line cumulative table.now rows.now m.entries) }
+{
+    let sums = sums_by_traceback(alloc, rows)?;
+    let by_frame = spread(alloc, &sums, by_line, cumulative, table)?;
     Ok(by_frame)
 }

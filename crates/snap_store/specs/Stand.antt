@@ -5,6 +5,7 @@ use Rattle.std.specs.List.{AllByRecursion}
 use Rattle.std.specs.Option.{option_map}
 use Rattle.mem_base.specs.Name.{Name}
 use Rattle.mem_base.specs.Texts.{text_at}
+use Rattle.mem_base.specs.declared.reply.Diff.{Diff}
 use Rattle.mem_base.specs.declared.reply.Frame.{Frame}
 use Rattle.mem_base.specs.declared.reply.Group.{Group}
 use Rattle.mem_base.specs.declared.texts.TextId.{TextId}
@@ -12,12 +13,15 @@ use Rattle.mem_base.specs.declared.trace.Rule.{Rule}
 use Rattle.map_model.specs.Map.{Map, find}
 use Rattle.frame_stack.specs.Callers.{AreAmong}
 pub use Rattle.frame_stack.specs.Tracebacks.{KeepsNumbers}
+use Rattle.dump_model.specs.Spelling.{dump_text}
+use Rattle.snapshot_model.specs.Compared.{plain_change}
 use Rattle.snapshot_model.specs.Occurrences.{occurrences}
 use Rattle.snapshot_model.specs.Rules.{kept_by}
 use Rattle.snapshot_model.specs.Snapshots.{PlainSnapshot}
 use Rattle.snapshot_model.specs.Stats.{PlainGroup, plain_group, stats_of}
 use Rattle.trace_table.specs.Plain.{AreTraced, plain_snapshot}
 use Rattle.trace_table.specs.declared.snapshot.Snapshot.{Snapshot}
+use Rattle.snap_stats.specs.Answers.{changes_between}
 use Rattle.snap_stats.specs.declared.stats.Grouping.{Grouping}
 use Rattle.snap_store.specs.declared.store.Named.{Named}
 
@@ -80,3 +84,20 @@ pub record AreFirst (texts : List Name) (table : List (List Frame)) (by : Groupi
   pub counted : answer.0 ≡ length (stats_in texts table by from)
   pub first : map (plain_group texts) answer.1 ≡ take most (stats_in texts table by from)
   pub known : AllByRecursion (λ g. AreAmong (length texts) g.key) answer.1
+
+-- there are a new and an old snapshot, and so many changes from the old one to the new, of which these are the first
+pub record AreFirstChanges (texts : List Name) (table : List (List Frame)) (by : Grouping) (most : ℕ)
+    (of : Option Snapshot × Option Snapshot) (answer : ℕ × List Diff) : Type 0 where
+  pub new : Snapshot
+  pub old : Snapshot
+  pub had_new : of.0 ≡ Some new
+  pub had_old : of.1 ≡ Some old
+  pub counted : answer.0 ≡ length (changes_between texts table by new old)
+  pub first : map (plain_change texts) answer.1 ≡ take most (changes_between texts table by new old)
+  pub known : AllByRecursion (λ d. AreAmong (length texts) d.key) answer.1
+
+-- there is a snapshot, and this is its text as a dump
+pub record IsTextOf (texts : List Name) (table : List (List Frame)) (of : Option Snapshot) (text : List ℕ) : Type 0 where
+  pub from : Snapshot
+  pub had : of ≡ Some from
+  pub spelt : text ≡ dump_text (plain_snapshot texts table from)

@@ -1,14 +1,15 @@
-ghost use Rattle.std.specs.Prelude.{◌≡◌, All, IfOk, IfSome, IfNone, OnOk, OnErr};
+ghost use Rattle.std.specs.Prelude.{◌≡◌, ◌⊎◌, All, IfOk, IfSome, IfNone, OnOk, OnErr};
 ghost use Rattle.std.specs.Prelude.{[], length, None};
 ghost use Rattle.std.specs.List.{position};
 ghost use Rattle.std.specs.Option.{option_copied};
 ghost use Rattle.frame_stack.specs.Callers.{AreAmong};
 ghost use Rattle.frame_stack.specs.Tracebacks.{IsShort};
-ghost use Rattle.snap_store.specs.Stand.{is_of, snapshot_at, AreFirst, AreStored, IsKeptBy, Keeps};
+ghost use Rattle.snap_store.specs.Stand.{is_of, snapshot_at, AreFirst, AreStored, IsKeptBy, IsTextOf};
+ghost use Rattle.snap_store.specs.Stand.{AreFirstChanges, Keeps};
 
 use frame_stack::Tracebacks;
-use mem_base::{Group, List, Rule, TextId, Texts};
-use snap_stats::{Grouping, first_statistics};
+use mem_base::{Diff, Group, List, Rule, TextId, Texts};
+use snap_stats::{Grouping, first_changes, first_statistics};
 use std::alloc::{AllocError, Global};
 use std::marker::Model;
 use trace_table::Snapshot;
@@ -129,5 +130,57 @@ impl Snapshots {
         };
         let first = first_statistics(alloc, s, by, most, texts, table)?;
         Ok(Some(first))
+    }
+    /// How many changes there are from an old name's snapshot to a new one's, and the first of them: so many, or
+    /// all. The names are the new one and the old one. `None` where one of them has no snapshot. The error is that
+    /// there was no memory.
+    pub fn compare(
+        &self,
+        alloc: Global,
+        names: (TextId, TextId),
+        by: Grouping,
+        most: u32,
+        texts: &Texts,
+        table: &Tracebacks,
+    ) -> Result<Option<(u64, List<Diff>)>, AllocError>
+        requires stored { AreStored table.now self.now }
+        requires among { All (AreAmong (length texts.now)) table.now }
+        requires short { All IsShort table.now }
+        ensures first { IfOk result (λ r. IfSome r (AreFirstChanges texts.now table.now by most
+            (snapshot_at self.now names.0, snapshot_at self.now names.1))) }
+        ensures none { IfOk result (λ r. IfNone r
+            ((snapshot_at self.now names.0 ≡ None) ⊎ (snapshot_at self.now names.1 ≡ None))) }
+    {
+        let Some(new) = self.get(names.0) else {
+            return Ok(None);
+        };
+        let Some(old) = self.get(names.1) else {
+            return Ok(None);
+        };
+        let first = first_changes(alloc, new, old, by, most, texts, table)?;
+        Ok(Some(first))
+    }
+
+    /// The text of the name's snapshot as a dump. `None` where the name has no snapshot. The error is that there
+    /// was no memory.
+    pub fn dump(
+        &self,
+        alloc: Global,
+        name: TextId,
+        texts: &Texts,
+        table: &Tracebacks,
+    ) -> Result<Option<List<u8>>, AllocError>
+        requires stored { AreStored table.now self.now }
+        requires among { All (AreAmong (length texts.now)) table.now }
+        requires short { All IsShort table.now }
+        ensures text { IfOk result (λ r. IfSome r
+            (IsTextOf texts.now table.now (snapshot_at self.now name))) }
+        ensures none { IfOk result (λ r. IfNone r (snapshot_at self.now name ≡ None)) }
+    {
+        let Some(s) = self.get(name) else {
+            return Ok(None);
+        };
+        let text = snap_file::dump(alloc, s, texts, table)?;
+        Ok(Some(text))
     }
 }

@@ -2,7 +2,10 @@
 use Rattle.std.specs.Prelude.{◌≡◌, ℕ, suc, ◌+◌, ◌≤◌, ℤ, pos, negsuc, ◌-ℤ◌, List, ◌++◌, map}
 use Rattle.std.specs.declared.cmp.Ordering.{Ordering}
 use Rattle.std.specs.Ordering.{ordering_then, nat_cmp}
+use Rattle.mem_base.specs.Name.{Name}
+use Rattle.mem_base.specs.declared.reply.Diff.{Diff}
 use Rattle.extents.specs.Sums.{tally, Has}
+use Rattle.frame_model.specs.Frames.{frames_of}
 use Rattle.snapshot_model.specs.Occurrences.{Key, Occurrence}
 use Rattle.snapshot_model.specs.Order.{Falls, falling}
 use Rattle.snapshot_model.specs.Stats.{key_cmp, keys_in, once_at, size_at}
@@ -14,6 +17,16 @@ pub record Change : Type 0 where
   pub size_diff : ℤ
   pub count : ℕ
   pub count_diff : ℤ
+
+-- what a change of the code stands for, with its files among these texts
+abbrev pub plain_change : List Name → Diff → Change
+plain_change texts d = record {
+  key = frames_of texts d.key;
+  size = d.size;
+  size_diff = d.size_diff;
+  count = d.count;
+  count_diff = d.count_diff;
+}
 
 -- a number without its sign
 abbrev pub magnitude : ℤ → ℕ

@@ -19,16 +19,16 @@ use Rattle.trace_model.specs.Operands.{side_at, hex_from, hex_at}
 use Rattle.trace_model.specs.Plain.{Action, acquire, release, malloc, calloc, realloc, free, poke, peek}
 use Rattle.trace_model.specs.Plain.{enter, go_to, leave}
 use Rattle.trace_model.specs.Plain.{start_tracing, stop_tracing, clear_traces, reset_peak, traced_memory}
-use Rattle.trace_model.specs.Plain.{mark, unmark, origin, snapshot, keep, stats}
-use Rattle.trace_model.specs.Plain.{heap, refuse, other, keyword_text, action_of, keyword_among, keyword_of}
+use Rattle.trace_model.specs.Plain.{mark, unmark, origin, snapshot, keep, stats, compare, dump}
+use Rattle.trace_model.specs.Plain.{heap, refuse, keyword_text, action_of, keyword_among, keyword_of}
 use Rattle.trace_model.specs.Plain.{operands_of, text_at}
 use Rattle.trace_model.specs.Plain.{Fits, honest_poke, malloc_at, calloc_at, realloc_at, free_at, poke_at}
 use Rattle.trace_model.specs.Plain.{peek_at, enter_at}
 use Rattle.trace_model.specs.Plain.{go_to_at, start_tracing_at, mark_at, unmark_at, origin_at, snapshot_at}
-use Rattle.trace_model.specs.Plain.{keep_at, stats_at, refuse_at, action_at}
+use Rattle.trace_model.specs.Plain.{keep_at, stats_at, compare_at, dump_at, refuse_at, action_at}
 use Rattle.trace_model.specs.Rules.{rules_at}
 use Rattle.trace_model.specs.Known.{IsKnown, IsKnownOp}
-use Rattle.trace_model.specs.Spelling.{words_after, line_of}
+use Rattle.trace_model.specs.Spelling.{line_of}
 use Rattle.trace_model.specs.Reading.{head_at}
 use Rattle.trace_model.specs.declared.keyword.Keyword.{Keyword}
 use Rattle.trace_model.specs.declared.keyword.Keyword.TheVariants as keys
@@ -73,6 +73,8 @@ keyword_again keys.Where = (refl, refl)
 keyword_again keys.Snapshot = (refl, refl)
 keyword_again keys.Keep = (refl, refl)
 keyword_again keys.Stats = (refl, refl)
+keyword_again keys.Compare = (refl, refl)
+keyword_again keys.Dump = (refl, refl)
 keyword_again keys.Heap = (refl, refl)
 keyword_again keys.Refuse = (refl, refl)
 
@@ -80,7 +82,7 @@ keyword_again keys.Refuse = (refl, refl)
 
 -- the operation has this keyword and these operands, and its operands are in their ranges
 abbrev pub Spells : Keyword → List (List ℕ) → Action → Type 0
-Spells k ws a = (keyword_of a ≡ Some k) × (operands_of a ≡ ws) × Fits a
+Spells k ws a = (keyword_of a ≡ k) × (operands_of a ≡ ws) × Fits a
 
 hex_is : (w bytes : List ℕ) → hex_at w ≡ Ok bytes → (w ≡ hex_word bytes) × AllByRecursion (λ b. b < 256) bytes × (1 ≤ length bytes) × (length bytes ≤ MAX_REACH)
 unfolding hex_at
@@ -240,6 +242,33 @@ stats_takes name key mode most a e =
     subst (Spells keys.Stats (name ∷ key ∷ mode ∷ most ∷ [])) (ok_is (stats name k.0 c.0 n.0) a n.2)
     (refl, (λ i. name ∷ sym kt i ∷ sym ct.0 i ∷ sym nt.0 i ∷ []), (name_takes name u.0 u.1, ct.1, nt.1, nt.2))
 
+compare_takes : (new old key mode most : List ℕ) (a : Action) → compare_at new old key mode most ≡ Ok a
+    → Spells keys.Compare (new ∷ old ∷ key ∷ mode ∷ most ∷ []) a
+unfolding compare_at
+compare_takes new old key mode most a e =
+    let u = bind_ok (name_at new)
+    (λ u. name_at old >>= λ v. key_at key >>= λ k. mode_at k mode >>= λ c. most_at most >>= λ n. Ok (compare new old k c n))
+    a e in
+    let v = bind_ok (name_at old)
+    (λ v. key_at key >>= λ k. mode_at k mode >>= λ c. most_at most >>= λ n. Ok (compare new old k c n)) a u.2 in
+    let k = bind_ok (key_at key) (λ k. mode_at k mode >>= λ c. most_at most >>= λ n. Ok (compare new old k c n)) a v.2 in
+    let c = bind_ok (mode_at k.0 mode) (λ c. most_at most >>= λ n. Ok (compare new old k.0 c n)) a k.2 in
+    let n = bind_ok (most_at most) (λ n. Ok (compare new old k.0 c.0 n)) a c.2 in
+    let kt = key_takes key k.0 k.1 in
+    let ct = mode_takes k.0 mode c.0 c.1 in
+    let nt = ranged_takes 1 MAX_LINES most n.0 n.1 in
+    subst (Spells keys.Compare (new ∷ old ∷ key ∷ mode ∷ most ∷ [])) (ok_is (compare new old k.0 c.0 n.0) a n.2) (
+      refl,
+      (λ i. new ∷ old ∷ sym kt i ∷ sym ct.0 i ∷ sym nt.0 i ∷ []),
+      (name_takes new u.0 u.1, name_takes old v.0 v.1, ct.1, nt.1, nt.2),
+    )
+
+dump_takes : (name : List ℕ) (a : Action) → dump_at name ≡ Ok a → Spells keys.Dump (name ∷ []) a
+unfolding dump_at
+dump_takes name a e =
+    let u = bind_ok (name_at name) (λ u. Ok (dump name)) a e in
+    subst (Spells keys.Dump (name ∷ [])) (ok_is (dump name) a u.2) (refl, refl, name_takes name u.0 u.1)
+
 refuse_takes : (side number : List ℕ) (a : Action) → refuse_at side number ≡ Ok a → Spells keys.Refuse (side ∷ number ∷ []) a
 unfolding refuse_at
 refuse_takes side number a e =
@@ -329,6 +358,16 @@ action_takes keys.Stats (w ∷ x ∷ []) a e = absurd cc
 action_takes keys.Stats (w ∷ x ∷ y ∷ []) a e = absurd cc
 action_takes keys.Stats (w ∷ x ∷ y ∷ z ∷ v ∷ ws) a e = absurd cc
 action_takes keys.Stats (name ∷ key ∷ mode ∷ most ∷ []) a e = stats_takes name key mode most a e
+action_takes keys.Compare [] a e = absurd cc
+action_takes keys.Compare (w ∷ []) a e = absurd cc
+action_takes keys.Compare (w ∷ x ∷ []) a e = absurd cc
+action_takes keys.Compare (w ∷ x ∷ y ∷ []) a e = absurd cc
+action_takes keys.Compare (w ∷ x ∷ y ∷ z ∷ []) a e = absurd cc
+action_takes keys.Compare (w ∷ x ∷ y ∷ z ∷ v ∷ u ∷ ws) a e = absurd cc
+action_takes keys.Compare (new ∷ old ∷ key ∷ mode ∷ most ∷ []) a e = compare_takes new old key mode most a e
+action_takes keys.Dump [] a e = absurd cc
+action_takes keys.Dump (w ∷ x ∷ ws) a e = absurd cc
+action_takes keys.Dump (name ∷ []) a e = dump_takes name a e
 action_takes keys.Heap [] a e = subst (Spells keys.Heap []) (ok_is heap a e) (refl, refl, tt)
 action_takes keys.Heap (w ∷ ws) a e = absurd cc
 action_takes keys.Refuse [] a e = absurd cc
@@ -351,13 +390,13 @@ hex_again bytes fits some few = rw (hex_back bytes fits, le-leb _ _ some, le-leb
 -- an operation's keyword; with its operands it is read as the operation, and each operand is a word
 pub record Spelt (a : Action) : Type 0 where
   pub keyword : Keyword
-  pub is : keyword_of a ≡ Some keyword
+  pub is : keyword_of a ≡ keyword
   pub read : action_at keyword (operands_of a) ≡ Ok a
   pub words : AllByRecursion (λ w. is_word w ≡ true) (operands_of a)
 
 pub action_again : (a : Action) → Fits a → Spelt a
 unfolding action_at malloc_at calloc_at realloc_at free_at poke_at peek_at enter_at go_to_at start_tracing_at mark_at unmark_at
-    origin_at snapshot_at keep_at stats_at refuse_at
+    origin_at snapshot_at keep_at stats_at compare_at dump_at refuse_at
 action_again acquire fits = record { keyword = keys.Acquire; is = refl; read = refl; words = tt }
 action_again release fits = record { keyword = keys.Release; is = refl; read = refl; words = tt }
 action_again (malloc letter name size) fits = record {
@@ -461,6 +500,31 @@ action_again (stats name key cumulative most) fits = record {
   ) refl;
   words = (name_word name fits.0, (key_is_word key, (mode_is_word cumulative, (number_word most (omega (arith, fits.3)), tt))));
 }
+action_again (compare new old key cumulative most) fits = record {
+  keyword = keys.Compare;
+  is = refl;
+  read = rw (
+    name_again new fits.0,
+    name_again old fits.1,
+    key_again key,
+    mode_again key cumulative fits.2,
+    ranged_again 1 MAX_LINES most
+        (lit< tt) fits.3 fits.4,
+  ) refl;
+  words = (
+    name_word new fits.0,
+    (
+      name_word old fits.1,
+      (key_is_word key, (mode_is_word cumulative, (number_word most (omega (arith, fits.4)), tt))),
+    ),
+  );
+}
+action_again (dump name) fits = record {
+  keyword = keys.Dump;
+  is = refl;
+  read = rw (name_again name fits) refl;
+  words = (name_word name fits, tt);
+}
 action_again heap fits = record { keyword = keys.Heap; is = refl; read = refl; words = tt }
 action_again (refuse side number) fits = record {
   keyword = keys.Refuse;
@@ -468,14 +532,12 @@ action_again (refuse side number) fits = record {
   read = rw (side_again side, ranged_again 1 MAX_REFUSAL number (lit< tt) fits.0 fits.1) refl;
   words = (side_is_word side, (number_word number (omega (arith, fits.1)), tt));
 }
-action_again other fits = absurd fits
 
 -- an operation's line is printing characters and blanks
 pub line_words : (a : Action) → Fits a → list_all (is_between 32 126) (line_of a) ≡ true
 line_words a fits =
     let s = action_again a fits in
-    words_plain (words_after (keyword_of a) (operands_of a))
-    (subst (λ o. AllByRecursion (λ w. is_word w ≡ true) (words_after o (operands_of a))) (sym s.is) ((keyword_again s.keyword).1, s.words))
+    words_plain (keyword_text (keyword_of a) ∷ operands_of a) ((keyword_again (keyword_of a)).1, s.words)
 
 -- ---- a table of texts that grows
 
@@ -515,9 +577,11 @@ action_stays texts more (code.Keep new old rules) known =
     λ i. keep (text_stays texts more new known.0 i) (text_stays texts more old known.1 i) rules
 action_stays texts more (code.Stats name key cumulative lines) known =
     ap (λ (n : Name). stats n key cumulative lines) (text_stays texts more name known)
+action_stays texts more (code.Compare new old key cumulative lines) known =
+    λ i. compare (text_stays texts more new known.0 i) (text_stays texts more old known.1 i) key cumulative lines
+action_stays texts more (code.Dump name) known = ap dump (text_stays texts more name known)
 action_stays texts more code.Heap known = refl
 action_stays texts more (code.Refuse side number) known = refl
-action_stays texts more op known = absurd known
 
 op_stays : (texts more : List Name) (op : Op) → IsKnownOp texts op → IsKnownOp (texts ++ more) op
 op_stays texts more code.Acquire known = tt
@@ -542,9 +606,11 @@ op_stays texts more (code.Origin name) known = known_stays texts more name known
 op_stays texts more (code.Snapshot name) known = known_stays texts more name known
 op_stays texts more (code.Keep new old rules) known = (known_stays texts more new known.0, known_stays texts more old known.1)
 op_stays texts more (code.Stats name key cumulative lines) known = known_stays texts more name known
+op_stays texts more (code.Compare new old key cumulative lines) known =
+    (known_stays texts more new known.0, known_stays texts more old known.1)
+op_stays texts more (code.Dump name) known = known_stays texts more name known
 op_stays texts more code.Heap known = tt
 op_stays texts more (code.Refuse side number) known = known
-op_stays texts more op known = absurd known
 
 pub actions_stay : (texts more : List Name) (ops : List Op) → AllByRecursion (IsKnownOp texts) ops → map (action_of (texts ++ more)) ops ≡ map (action_of texts) ops
 actions_stay texts more [] known = refl

@@ -10,3 +10,5 @@ mod TrackLaws
 mod TraceLaws
 mod TableLaws
 mod SnapshotLaws
+mod CauseLaws
+mod StopLaws

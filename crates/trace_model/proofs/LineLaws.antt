@@ -10,8 +10,8 @@ use Rattle.mem_base.specs.Name.{Name}
 use Rattle.std.specs.Prelude.{decimal}
 use Rattle.mem_base.specs.declared.limits.TheConstants.{MAX_PICKS}
 use Rattle.trace_model.specs.Operands.{◌>>=◌, is_between, is_name, name_at, times_at}
-use Rattle.trace_model.specs.Plain.{Action, PlainTrace, keywords, keyword_among, operands_of, Fits, action_at}
-use Rattle.trace_model.specs.Spelling.{head_text, words_after, line_of, track_line, pick_line}
+use Rattle.trace_model.specs.Plain.{Action, PlainTrace, keywords, keyword_among, keyword_text, operands_of, Fits, action_at}
+use Rattle.trace_model.specs.Spelling.{head_text, line_of, track_line, pick_line}
 use Rattle.trace_model.specs.declared.keyword.Keyword.{Keyword}
 use Rattle.trace_model.specs.declared.keyword.Head.{Head}
 use Rattle.trace_model.specs.declared.keyword.Head.TheVariants as heads
@@ -24,7 +24,7 @@ use Rattle.trace_model.proofs.OperandLaws.{ranged_takes, ranged_again}
 use Rattle.trace_model.proofs.ActionLaws.{keyword_takes, keyword_again, action_takes, action_again}
 use Rattle.trace_model.proofs.WordLaws.{is_word, track_words_fit, pick_words_fit, words_again, words_plain}
 
-head_takes : (w : List ℕ) (h : Head) → head_at w ≡ Ok h → w ≡ head_text h
+pub head_takes : (w : List ℕ) (h : Head) → head_at w ≡ Ok h → w ≡ head_text h
 head_takes w h e = elim (one_of head_text w heads.Track (cond (bytes_eq w (head_text heads.Pick)) (Ok heads.Pick) (keyword_among keywords w >>= λ k. Ok (heads.Op k))) h e) [
   | inl is ↦ is
   | inr rest ↦ elim (one_of head_text w heads.Pick (keyword_among keywords w >>= λ k. Ok (heads.Op k)) h rest) [
@@ -63,7 +63,7 @@ by_item t u heads.Pick ws placed e = by_pick t u ws e
 by_item t u (heads.Op k) ws placed e =
     let b = bind_ok (action_at k ws) (λ a. add t a) u e in
     let s = action_takes k ws b.0 b.1 in
-    an_action b.0 k s.2 (λ i. join_with_byte 32 (words_after (sym s.0 i) (sym s.1 i))) placed b.2
+    an_action b.0 k s.2 (λ i. join_with_byte 32 (keyword_text (sym s.0 i) ∷ sym s.1 i)) placed b.2
 
 pub line_takes : (t u : PlainTrace) (line : List ℕ) → line_at t line ≡ Ok u → Adds t u line
 unfolding line_at
@@ -111,7 +111,7 @@ pub action_line_again : (t u : PlainTrace) (a : Action) → Fits a → ((k : Key
 action_line_again t u a fits placed sum =
     let s = action_again a fits in
     let k = keyword_again s.keyword in
-    ap (λ o. line_at t (join_with_byte 32 (words_after o (operands_of a)))) s.is
+    ap (λ o. line_at t (join_with_byte 32 (keyword_text o ∷ operands_of a))) s.is
     ∙ by_head t u (heads.Op s.keyword) (operands_of a) k.0 (k.1, s.words) (placed s.keyword) (ap (λ r. r >>= λ b. add t b) s.read ∙ sum)
 
 pub track_line_again : (t u : PlainTrace) (name : Name) → is_name name ≡ true → is_misplaced t heads.Track ≡ false → start t name ≡ Ok u → line_at t (track_line name) ≡ Ok u

@@ -43,14 +43,14 @@ use Rattle.trace_model.proofs.TrackLaws.{open_with_last, suc_not_zero, length-wi
 use Rattle.trace_model.proofs.TrackLaws.{report_count-with, fits_with, lines_with, with_last}
 use Rattle.trace_model.proofs.TrackLaws.{counts_with_last, reports_with_last}
 
-abbrev fine : PlainTrace → Result PlainTrace Stop
+abbrev pub fine : PlainTrace → Result PlainTrace Stop
 fine t = Ok t
 
-fine_is : (t u : PlainTrace) → fine t ≡ fine u → t ≡ u
+pub fine_is : (t u : PlainTrace) → fine t ≡ fine u → t ≡ u
 fine_is t u e = cc
 
 -- well formed, and spelt with one line more than before
-abbrev Grows : PlainTrace → List ℕ → PlainTrace → Type 0
+abbrev pub Grows : PlainTrace → List ℕ → PlainTrace → Type 0
 Grows t line u = IsWellFormed u × (body u ≡ body t ++ with_end line)
 
 -- picks stay fit while tracks come
@@ -156,7 +156,7 @@ pick_grows t u name i times some found e well =
           ∙ sym (append_assoc (track_lines t.tracks) (pick_lines t.tracks t.picks) (with_end (pick_line name times))),
     )
 
-line_grows : (t u : PlainTrace) (line : List ℕ) → Adds t u line → IsWellFormed t → Grows t line u
+pub line_grows : (t u : PlainTrace) (line : List ℕ) → Adds t u line → IsWellFormed t → Grows t line u
 line_grows t u line (a_track name named is placed made) well =
     subst (λ (x : List ℕ). Grows t x u) (sym is) (start_grows t u name named (no_picks t.picks placed) made well)
 line_grows t u line (a_pick name i times named found some is made) well =
@@ -169,12 +169,12 @@ line_grows t u line (an_action a k fits is placed made) well =
     neither true b h = absurd (true≢false h)
     neither false b h = (refl, h)
 
-done_lines : (k : ℕ) (r : Result PlainTrace TraceCause) (f : PlainTrace → Result PlainTrace Stop) (u : PlainTrace) → then_lines k r f ≡ Ok u → (v : PlainTrace) × (r ≡ Ok v) × (f v ≡ Ok u)
+pub done_lines : (k : ℕ) (r : Result PlainTrace TraceCause) (f : PlainTrace → Result PlainTrace Stop) (u : PlainTrace) → then_lines k r f ≡ Ok u → (v : PlainTrace) × (r ≡ Ok v) × (f v ≡ Ok u)
 done_lines k (Ok v) f u e = (v, refl, e)
 done_lines k (Err c) f u e = absurd cc
 
 -- a test that stopped nothing
-went_on : (b : Bool) (r : Result PlainTrace Stop) (d : Stop) (y : PlainTrace) → cond b r (Err d) ≡ Ok y → (b ≡ true) × (r ≡ Ok y)
+pub went_on : (b : Bool) (r : Result PlainTrace Stop) (d : Stop) (y : PlainTrace) → cond b r (Err d) ≡ Ok y → (b ≡ true) × (r ≡ Ok y)
 went_on true r d y e = (refl, e)
 went_on false r d y e = absurd cc
 
@@ -195,7 +195,7 @@ lines_take k t u (line ∷ next ∷ more) e well =
           ∙ ap (λ (x : List ℕ). body t ++ x) (append_assoc line (10 ∷ []) (join_with_byte 10 (next ∷ more))),
     )
 
-no_tracks : IsWellFormed opening
+pub no_tracks : IsWellFormed opening
 no_tracks = record {
   tracks = omega arith;
   distinct = λ i j text at_i at_j. absurd cc;

@@ -6,3 +6,4 @@ pub mod Cause
 pub mod Reading
 pub mod Known
 pub mod Table
+pub mod Causes

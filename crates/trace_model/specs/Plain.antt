@@ -33,7 +33,7 @@ use Rattle.trace_model.specs.declared.cause.TraceCause.TheVariants.{UnknownWord,
 use Rattle.trace_model.specs.declared.keyword.Keyword.{Keyword}
 use Rattle.trace_model.specs.declared.keyword.Keyword.TheVariants as keys
 
--- an operation; other stands for those that no trace may have yet
+-- an operation
 pub data Action : Type 0 where
   acquire : Action
   release : Action
@@ -64,9 +64,12 @@ pub data Action : Type 0 where
   keep : (new old : Name) → List Rule → Action
   -- the statistics of a snapshot by a key, at most so many lines
   stats : Name → KeyKind → (cumulative : Bool) → (most : ℕ) → Action
+  -- the changes by a key from an old snapshot to a new one, at most so many lines
+  compare : (new old : Name) → KeyKind → (cumulative : Bool) → (most : ℕ) → Action
+  -- a snapshot as text
+  dump : Name → Action
   heap : Action
   refuse : Side → ℕ → Action
-  other : Action
 
 -- a track and what it does, in order
 pub record PlainTrack : Type 0 where
@@ -103,8 +106,9 @@ action_of texts (code.Origin name) = origin (text_at texts name)
 action_of texts (code.Snapshot name) = snapshot (text_at texts name)
 action_of texts (code.Keep new old rules) = keep (text_at texts new) (text_at texts old) rules
 action_of texts (code.Stats name key cumulative lines) = stats (text_at texts name) key cumulative lines
-action_of texts (code.Compare new old key cumulative lines) = other
-action_of texts (code.Dump name) = other
+action_of texts (code.Compare new old key cumulative lines) =
+    compare (text_at texts new) (text_at texts old) key cumulative lines
+action_of texts (code.Dump name) = dump (text_at texts name)
 action_of texts code.Heap = heap
 action_of texts (code.Refuse side number) = refuse side number
 
@@ -121,7 +125,7 @@ picks_of ps = map (λ p. (p.track, p.times)) ps
 abbrev pub plain : Trace → PlainTrace
 plain t = record { tracks = tracks_of t.texts t.tracks; picks = picks_of t.picks }
 
--- the operation is one that a trace may have, its text has a number below this, and its operands are in their ranges
+-- its texts have numbers below this, and its operands are in their ranges
 abbrev pub IsKnownAmong : ℕ → Op → Type 0
 IsKnownAmong texts code.Acquire = Unit {0}
 IsKnownAmong texts code.Release = Unit {0}
@@ -146,8 +150,8 @@ IsKnownAmong texts (code.Origin name) = name.0 < texts
 IsKnownAmong texts (code.Snapshot name) = name.0 < texts
 IsKnownAmong texts (code.Keep new old rules) = (new.0 < texts) × (old.0 < texts)
 IsKnownAmong texts (code.Stats name key cumulative lines) = name.0 < texts
-IsKnownAmong texts (code.Compare new old key cumulative lines) = ⊥
-IsKnownAmong texts (code.Dump name) = ⊥
+IsKnownAmong texts (code.Compare new old key cumulative lines) = (new.0 < texts) × (old.0 < texts)
+IsKnownAmong texts (code.Dump name) = name.0 < texts
 IsKnownAmong texts code.Heap = Unit {0}
 IsKnownAmong texts (code.Refuse side number) = (1 ≤ number) × (number ≤ MAX_REFUSAL)
 
@@ -177,6 +181,8 @@ keyword_text keys.Where = codes "where"
 keyword_text keys.Snapshot = codes "snapshot"
 keyword_text keys.Keep = codes "keep"
 keyword_text keys.Stats = codes "stats"
+keyword_text keys.Compare = codes "compare"
+keyword_text keys.Dump = codes "dump"
 keyword_text keys.Heap = codes "heap"
 keyword_text keys.Refuse = codes "refuse"
 
@@ -185,7 +191,8 @@ abbrev pub keywords : List Keyword
 keywords =
     keys.Acquire ∷ keys.Release ∷ keys.Malloc ∷ keys.Calloc ∷ keys.Realloc ∷ keys.Free ∷ keys.Poke ∷ keys.Peek
     ∷ keys.Call ∷ keys.Line ∷ keys.Return ∷ keys.Start ∷ keys.Stop ∷ keys.Clear ∷ keys.ResetPeak ∷ keys.Traced
-    ∷ keys.Mark ∷ keys.Unmark ∷ keys.Where ∷ keys.Snapshot ∷ keys.Keep ∷ keys.Stats ∷ keys.Heap ∷ keys.Refuse ∷ []
+    ∷ keys.Mark ∷ keys.Unmark ∷ keys.Where ∷ keys.Snapshot ∷ keys.Keep ∷ keys.Stats ∷ keys.Compare
+    ∷ keys.Dump ∷ keys.Heap ∷ keys.Refuse ∷ []
 
 -- the one of these keywords whose text this is
 abbrev pub keyword_among : List Keyword → List ℕ → Result Keyword TraceCause
@@ -216,38 +223,41 @@ prints_more keys.Where = true
 prints_more keys.Snapshot = true
 prints_more keys.Keep = true
 prints_more keys.Stats = true
+prints_more keys.Compare = true
+prints_more keys.Dump = true
 prints_more keys.Heap = true
 prints_more keys.Refuse = false
 
 -- ---- what is said of an operation
 
 -- its keyword
-abbrev pub keyword_of : Action → Option Keyword
-keyword_of acquire = Some keys.Acquire
-keyword_of release = Some keys.Release
-keyword_of (malloc letter name size) = Some keys.Malloc
-keyword_of (calloc letter name count size) = Some keys.Calloc
-keyword_of (realloc letter name size) = Some keys.Realloc
-keyword_of (free letter name) = Some keys.Free
-keyword_of (poke name offset bytes) = Some keys.Poke
-keyword_of (peek name offset count) = Some keys.Peek
-keyword_of (enter file line) = Some keys.Call
-keyword_of (go_to line) = Some keys.Line
-keyword_of leave = Some keys.Return
-keyword_of (start_tracing limit) = Some keys.Start
-keyword_of stop_tracing = Some keys.Stop
-keyword_of clear_traces = Some keys.Clear
-keyword_of reset_peak = Some keys.ResetPeak
-keyword_of traced_memory = Some keys.Traced
-keyword_of (mark domain number size) = Some keys.Mark
-keyword_of (unmark domain number) = Some keys.Unmark
-keyword_of (origin name) = Some keys.Where
-keyword_of (snapshot name) = Some keys.Snapshot
-keyword_of (keep new old rules) = Some keys.Keep
-keyword_of (stats name key cumulative most) = Some keys.Stats
-keyword_of heap = Some keys.Heap
-keyword_of (refuse side number) = Some keys.Refuse
-keyword_of other = None
+abbrev pub keyword_of : Action → Keyword
+keyword_of acquire = keys.Acquire
+keyword_of release = keys.Release
+keyword_of (malloc letter name size) = keys.Malloc
+keyword_of (calloc letter name count size) = keys.Calloc
+keyword_of (realloc letter name size) = keys.Realloc
+keyword_of (free letter name) = keys.Free
+keyword_of (poke name offset bytes) = keys.Poke
+keyword_of (peek name offset count) = keys.Peek
+keyword_of (enter file line) = keys.Call
+keyword_of (go_to line) = keys.Line
+keyword_of leave = keys.Return
+keyword_of (start_tracing limit) = keys.Start
+keyword_of stop_tracing = keys.Stop
+keyword_of clear_traces = keys.Clear
+keyword_of reset_peak = keys.ResetPeak
+keyword_of traced_memory = keys.Traced
+keyword_of (mark domain number size) = keys.Mark
+keyword_of (unmark domain number) = keys.Unmark
+keyword_of (origin name) = keys.Where
+keyword_of (snapshot name) = keys.Snapshot
+keyword_of (keep new old rules) = keys.Keep
+keyword_of (stats name key cumulative most) = keys.Stats
+keyword_of (compare new old key cumulative most) = keys.Compare
+keyword_of (dump name) = keys.Dump
+keyword_of heap = keys.Heap
+keyword_of (refuse side number) = keys.Refuse
 
 -- the name of the block that it works on
 abbrev pub name_of : Action → Option Name
@@ -273,9 +283,10 @@ name_of (origin name) = Some name
 name_of (snapshot name) = None
 name_of (keep new old rules) = None
 name_of (stats name key cumulative most) = None
+name_of (compare new old key cumulative most) = None
+name_of (dump name) = None
 name_of heap = None
 name_of (refuse side number) = None
-name_of other = None
 
 -- the texts that it says: the names of blocks and snapshots, and the file of a call
 abbrev pub says : Action → List Name
@@ -301,9 +312,10 @@ says (origin name) = name ∷ []
 says (snapshot name) = name ∷ []
 says (keep new old rules) = new ∷ old ∷ []
 says (stats name key cumulative most) = name ∷ []
+says (compare new old key cumulative most) = new ∷ old ∷ []
+says (dump name) = name ∷ []
 says heap = []
 says (refuse side number) = []
-says other = []
 
 -- the name of the snapshot that it writes, and the rules by which it keeps traces of another one
 abbrev pub writes : Action → Option (Name × List Rule)
@@ -329,9 +341,10 @@ writes (origin name) = None
 writes (snapshot name) = Some (name, [])
 writes (keep new old rules) = Some (new, rules)
 writes (stats name key cumulative most) = None
+writes (compare new old key cumulative most) = None
+writes (dump name) = None
 writes heap = None
 writes (refuse side number) = None
-writes other = None
 
 -- the name of the snapshot that it writes
 abbrev pub written_by : Action → Option Name
@@ -348,7 +361,7 @@ has_few_rules a = are_few (writes a)
 
 -- whether it prints more than a reply
 abbrev pub is_report : Action → Bool
-is_report a = unwrap_or (option_map prints_more (keyword_of a)) false
+is_report a = prints_more (keyword_of a)
 
 -- the words behind its keyword
 abbrev pub operands_of : Action → List (List ℕ)
@@ -374,9 +387,11 @@ operands_of (origin name) = name ∷ []
 operands_of (snapshot name) = name ∷ []
 operands_of (keep new old rules) = new ∷ old ∷ map rule_word rules
 operands_of (stats name key cumulative most) = name ∷ key_word key ∷ mode_word cumulative ∷ decimal most ∷ []
+operands_of (compare new old key cumulative most) =
+    new ∷ old ∷ key_word key ∷ mode_word cumulative ∷ decimal most ∷ []
+operands_of (dump name) = name ∷ []
 operands_of heap = []
 operands_of (refuse side number) = side_word side ∷ decimal number ∷ []
-operands_of other = []
 
 -- what a poke needs: a name, an offset, bytes, and that it writes no domain's letter
 pub record FitsPoke (name : Name) (offset : ℤ) (bytes : List ℕ) : Type 0 where
@@ -416,9 +431,11 @@ Fits (snapshot name) = IsTrue (is_name name)
 Fits (keep new old rules) = IsTrue (is_name new) × IsTrue (is_name old) × AllByRecursion FitsRule rules
 Fits (stats name key cumulative most) =
     IsTrue (is_name name) × IsTrue (may_be key cumulative) × (1 ≤ most) × (most ≤ MAX_LINES)
+Fits (compare new old key cumulative most) =
+    IsTrue (is_name new) × IsTrue (is_name old) × IsTrue (may_be key cumulative) × (1 ≤ most) × (most ≤ MAX_LINES)
+Fits (dump name) = IsTrue (is_name name)
 Fits heap = Unit {0}
 Fits (refuse side number) = (1 ≤ number) × (number ≤ MAX_REFUSAL)
-Fits other = ⊥
 
 -- ---- the frames of a track, as its calls and returns leave them
 
@@ -446,9 +463,10 @@ needs_frame (origin name) = false
 needs_frame (snapshot name) = false
 needs_frame (keep new old rules) = false
 needs_frame (stats name key cumulative most) = false
+needs_frame (compare new old key cumulative most) = false
+needs_frame (dump name) = false
 needs_frame heap = false
 needs_frame (refuse side number) = false
-needs_frame other = false
 
 -- how many frames a track has after it, of so many before
 abbrev pub depth_after : ℕ → Action → ℕ
@@ -474,9 +492,10 @@ depth_after n (origin name) = n
 depth_after n (snapshot name) = n
 depth_after n (keep new old rules) = n
 depth_after n (stats name key cumulative most) = n
+depth_after n (compare new old key cumulative most) = n
+depth_after n (dump name) = n
 depth_after n heap = n
 depth_after n (refuse side number) = n
-depth_after n other = n
 
 -- how many frames these operations leave, of so many before
 abbrev pub depth_from : ℕ → List Action → ℕ
@@ -594,6 +613,18 @@ stats_at name key mode most = do
   n ← most_at most
   Ok (stats name k c n)
 
+unfoldable pub compare_at : List ℕ → List ℕ → List ℕ → List ℕ → List ℕ → Result Action TraceCause
+compare_at new old key mode most = do
+  u ← name_at new
+  v ← name_at old
+  k ← key_at key
+  c ← mode_at k mode
+  n ← most_at most
+  Ok (compare new old k c n)
+
+unfoldable pub dump_at : List ℕ → Result Action TraceCause
+dump_at name = name_at name >>= λ u. Ok (dump name)
+
 unfoldable pub refuse_at : List ℕ → List ℕ → Result Action TraceCause
 refuse_at side number = do
   s ← side_at side
@@ -646,6 +677,10 @@ action_at keys.Keep (new ∷ old ∷ rules) = keep_at new old rules
 action_at keys.Keep ws = Err BadWords
 action_at keys.Stats (name ∷ key ∷ mode ∷ most ∷ []) = stats_at name key mode most
 action_at keys.Stats ws = Err BadWords
+action_at keys.Compare (new ∷ old ∷ key ∷ mode ∷ most ∷ []) = compare_at new old key mode most
+action_at keys.Compare ws = Err BadWords
+action_at keys.Dump (name ∷ []) = dump_at name
+action_at keys.Dump ws = Err BadWords
 action_at keys.Heap [] = Ok heap
 action_at keys.Heap ws = Err BadWords
 action_at keys.Refuse (side ∷ number ∷ []) = refuse_at side number

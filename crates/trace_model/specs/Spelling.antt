@@ -1,6 +1,6 @@
 -- The one spelling of a trace, and the traces that have one.
 use Rattle.std.specs.Prelude.{ℕ, ◌<◌, ◌≤◌, if◌then◌else◌, List, [], ◌∷◌, ◌++◌, length, map, slice_get, sum_by}
-use Rattle.std.specs.Prelude.{unwrap_or, codes, decimal, Option, Some, None, IsTrue}
+use Rattle.std.specs.Prelude.{unwrap_or, codes, decimal, IsTrue}
 use Rattle.std.specs.List.{AllByRecursion, flat_map, join_with_byte}
 use Rattle.std.specs.Option.{option_to_list}
 use Rattle.mem_base.specs.Name.{Name}
@@ -10,7 +10,6 @@ use Rattle.trace_model.specs.Operands.{is_name}
 use Rattle.trace_model.specs.Plain.{Action, PlainTrack, PlainTrace, keyword_text, keyword_of, operands_of, is_report}
 use Rattle.trace_model.specs.Plain.{Fits, KeepFrames, has_few_rules, written_by}
 use Rattle.trace_model.specs.Table.{firsts}
-use Rattle.trace_model.specs.declared.keyword.Keyword.{Keyword}
 use Rattle.trace_model.specs.declared.keyword.Head.{Head}
 use Rattle.trace_model.specs.declared.keyword.Head.TheVariants as heads
 
@@ -30,14 +29,9 @@ head_text heads.Track = codes "track"
 head_text heads.Pick = codes "pick"
 head_text (heads.Op k) = keyword_text k
 
--- a keyword, where there is one, and the words behind it
-abbrev pub words_after : Option Keyword → List (List ℕ) → List (List ℕ)
-words_after None ws = []
-words_after (Some k) ws = keyword_text k ∷ ws
-
 -- the line of an operation, without its end
 abbrev pub line_of : Action → List ℕ
-line_of a = join_with_byte blank (words_after (keyword_of a) (operands_of a))
+line_of a = join_with_byte blank (keyword_text (keyword_of a) ∷ operands_of a)
 
 -- the line that begins a track, without its end
 abbrev pub track_line : Name → List ℕ

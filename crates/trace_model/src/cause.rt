@@ -1,5 +1,5 @@
-/// Why a line of a trace is refused. Where several hold, the first of them in the order of a line's
-/// reading is the cause.
+/// Why a line of a trace is refused. Where several hold, the first row of the table in `specs/Causes.antt`
+/// is the cause: its operands' own causes stand there in one row, from left to right.
 #[derive(Clone, Copy, Debug, PartialEq, Eq)]
 pub enum TraceCause {
     /// The last line has no end.

@@ -1,8 +1,7 @@
 //! What a line begins with, a track, a pick or an operation, and what is said of each operation once: its
 //! keyword, the name of the block that it works on, the name of the snapshot that it writes, and what it does
 //! to the frames of its track. A keyword is spelt in one table, [`Keyword::word`], which reading, spelling and
-//! reports use; [`Head::with_letter`] has the heads by their first letters. An operation that no trace may
-//! have yet has no keyword.
+//! reports use; [`Head::with_letter`] has the heads by their first letters.
 ghost use Rattle.std.specs.Prelude.{◌≡◌, ◌<◌, ◌≤◌, ◌∷◌, ℕ, List, IfSome};
 ghost use Rattle.std.specs.Option.{option_map};
 ghost use Rattle.mem_base.specs.Name.{Name};
@@ -39,6 +38,8 @@ pub enum Keyword {
     Snapshot,
     Keep,
     Stats,
+    Compare,
+    Dump,
     Heap,
     Refuse,
 }
@@ -80,6 +81,8 @@ impl Keyword {
             Keyword::Snapshot => "snapshot",
             Keyword::Keep => "keep",
             Keyword::Stats => "stats",
+            Keyword::Compare => "compare",
+            Keyword::Dump => "dump",
             Keyword::Heap => "heap",
             Keyword::Refuse => "refuse",
         }
@@ -91,8 +94,13 @@ impl Keyword {
         ensures { result ≡ prints_more self }
     {
         match self {
-            Keyword::Heap | Keyword::Where | Keyword::Snapshot | Keyword::Keep | Keyword::Stats =>
-                true,
+            Keyword::Heap
+            | Keyword::Where
+            | Keyword::Snapshot
+            | Keyword::Keep
+            | Keyword::Stats
+            | Keyword::Compare
+            | Keyword::Dump => true,
             Keyword::Acquire
             | Keyword::Release
             | Keyword::Malloc
@@ -115,36 +123,37 @@ impl Keyword {
         }
     }
 
-    /// The keyword of an operation, where a trace may have it.
-    pub fn of(op: &Op) -> Option<Keyword>
+    /// The keyword of an operation.
+    pub fn of(op: &Op) -> Keyword
         ensures { (texts : List Name) → result ≡ keyword_of (action_of texts op.now) }
     {
         match op {
-            Op::Acquire => Some(Keyword::Acquire),
-            Op::Release => Some(Keyword::Release),
-            Op::Malloc(_, _, _) => Some(Keyword::Malloc),
-            Op::Calloc(_, _, _, _) => Some(Keyword::Calloc),
-            Op::Realloc(_, _, _) => Some(Keyword::Realloc),
-            Op::Free(_, _) => Some(Keyword::Free),
-            Op::Poke(_, _, _) => Some(Keyword::Poke),
-            Op::Peek(_, _, _) => Some(Keyword::Peek),
-            Op::Enter(_, _) => Some(Keyword::Call),
-            Op::Line(_) => Some(Keyword::Line),
-            Op::Leave => Some(Keyword::Return),
-            Op::Start(_) => Some(Keyword::Start),
-            Op::Stop => Some(Keyword::Stop),
-            Op::Clear => Some(Keyword::Clear),
-            Op::ResetPeak => Some(Keyword::ResetPeak),
-            Op::Traced => Some(Keyword::Traced),
-            Op::Mark(_, _, _) => Some(Keyword::Mark),
-            Op::Unmark(_, _) => Some(Keyword::Unmark),
-            Op::Origin(_) => Some(Keyword::Where),
-            Op::Heap => Some(Keyword::Heap),
-            Op::Refuse(_, _) => Some(Keyword::Refuse),
-            Op::Snapshot(_) => Some(Keyword::Snapshot),
-            Op::Keep(_, _, _) => Some(Keyword::Keep),
-            Op::Stats(_, _, _, _) => Some(Keyword::Stats),
-            Op::Compare(_, _, _, _, _) | Op::Dump(_) => None,
+            Op::Acquire => Keyword::Acquire,
+            Op::Release => Keyword::Release,
+            Op::Malloc(_, _, _) => Keyword::Malloc,
+            Op::Calloc(_, _, _, _) => Keyword::Calloc,
+            Op::Realloc(_, _, _) => Keyword::Realloc,
+            Op::Free(_, _) => Keyword::Free,
+            Op::Poke(_, _, _) => Keyword::Poke,
+            Op::Peek(_, _, _) => Keyword::Peek,
+            Op::Enter(_, _) => Keyword::Call,
+            Op::Line(_) => Keyword::Line,
+            Op::Leave => Keyword::Return,
+            Op::Start(_) => Keyword::Start,
+            Op::Stop => Keyword::Stop,
+            Op::Clear => Keyword::Clear,
+            Op::ResetPeak => Keyword::ResetPeak,
+            Op::Traced => Keyword::Traced,
+            Op::Mark(_, _, _) => Keyword::Mark,
+            Op::Unmark(_, _) => Keyword::Unmark,
+            Op::Origin(_) => Keyword::Where,
+            Op::Heap => Keyword::Heap,
+            Op::Refuse(_, _) => Keyword::Refuse,
+            Op::Snapshot(_) => Keyword::Snapshot,
+            Op::Keep(_, _, _) => Keyword::Keep,
+            Op::Stats(_, _, _, _) => Keyword::Stats,
+            Op::Compare(_, _, _, _, _) => Keyword::Compare,
+            Op::Dump(_) => Keyword::Dump,
         }
     }
 }
@@ -161,7 +170,9 @@ impl Head {
                 Head::Op(Keyword::Calloc),
                 Head::Op(Keyword::Call),
                 Head::Op(Keyword::Clear),
+                Head::Op(Keyword::Compare),
             ],
+            b'd' => &[Head::Op(Keyword::Dump)],
             b'f' => &[Head::Op(Keyword::Free)],
             b'h' => &[Head::Op(Keyword::Heap)],
             b'k' => &[Head::Op(Keyword::Keep)],

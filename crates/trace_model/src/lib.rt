@@ -2,8 +2,8 @@
 //! first fault of bytes that spell none. The definitions stand in `specs/`: `Operands` says how a
 //! number, an offset, a name or bytes are spelt and read, `Plain` all that is said of each operation
 //! (its keyword, its operands, their ranges, how it is read), `Spelling` and `Reading` what a whole
-//! trace is, both ways. The functions here are the table of keywords and the laws that tie the
-//! definitions together.
+//! trace is, both ways, and `Causes` for which causes a line is refused, as one table. The functions
+//! here are the table of keywords and the laws that tie the definitions together.
 //!
 //! A trace is lines of words. The first line is `pymtrace 1`. Then comes for each track, of which there
 //! are at most 64, a line `track NAME` and a line for each of its operations. Last come the picks: lines
@@ -30,7 +30,9 @@
 //! | `snapshot NAME` | the name that the snapshot gets |
 //! | `keep NAME NAME RULES` | the name that the snapshot gets, the one that it is kept from, and 0 to 16 rules |
 //! | `stats NAME KEY MODE NUM` | snapshot, `filename`, `lineno` or `traceback`, `plain` or `cumulative`, 1 to 1,000,000 lines |
-//! | `heap` | none; with `where`, `snapshot`, `keep` and `stats`, at most 1,024 of them |
+//! | `compare NAME NAME KEY MODE NUM` | the new snapshot, the old one, and what `stats` has behind its snapshot |
+//! | `dump NAME` | snapshot |
+//! | `heap` | none; with `where`, `snapshot`, `keep`, `stats`, `compare` and `dump`, at most 1,024 of them |
 //! | `refuse SIDE NUM` | `arena` or `raw`, and which request of that source is refused, 1 (the next one) to 1,000,000 |
 //!
 //! `snapshot` and `keep` write at most 16 names of snapshots. A rule is one word: `in,SCOPE,LINE,DOMAIN,PATTERN` or
@@ -44,4 +46,4 @@ mod laws;
 
 pub use cause::TraceCause;
 pub use keyword::{Head, Keyword, depth_after, name_of, needs_frame, writes};
-pub use laws::{read_where_spelt, spelt_once};
+pub use laws::{read_where_spelt, refused_at_first_fault, refused_by_first_row, spelt_once};

@@ -45,10 +45,7 @@ pub struct Counts {
 fn is_report(op: &Op) -> bool
     ensures { result ≡ is_report (bare op.now) }
 {
-    match Keyword::of(op) {
-        Some(keyword) => keyword.prints_more(),
-        None => false,
-    }
+    Keyword::of(op).prints_more()
 }
 
 // Whether an operation has no more rules than one may have.

@@ -1,13 +1,10 @@
 //! Each kind of operand of a line, read from its word: `Ok` of what the word spells, or the first
 //! cause for which it is refused. Words are bytes, and nothing is copied but the bytes of a poke.
-ghost use Rattle.std.specs.Prelude.{◌≡◌, ◌*◌, ◌+◌, ◌-◌, ◌^◌, ◌≤◌, ◌&&◌, ◌∷◌, ℕ, List, nat_lt, length, IfOk};
-ghost use Rattle.std.specs.Prelude.{Some, None, if◌then◌else◌};
-ghost use Rattle.std.specs.List.{list_all};
+ghost use Rattle.std.specs.Prelude.{◌≡◌, ◌≤◌, length, IfOk};
 ghost use Rattle.mem_base.specs.Offset.{IsOffset};
-ghost use Rattle.trace_model.specs.Operands.{is_between, is_file_byte, is_name_byte, digits_from, number_at};
 ghost use Rattle.trace_model.specs.Operands.{offset_at};
 ghost use Rattle.trace_model.specs.Operands.{forward_at, backward_at, number_in, count_at, refusal_at};
-ghost use Rattle.trace_model.specs.Operands.{line_number_at, limit_at, domain_at, is_file, file_at};
+ghost use Rattle.trace_model.specs.Operands.{line_number_at, limit_at, domain_at, file_at};
 ghost use Rattle.trace_model.specs.Operands.{key_at, mode_at, most_at};
 ghost use Rattle.trace_model.specs.Operands.{times_at, name_at, letter_at, side_at, hex_from, hex_at};
 ghost use Rattle.trace_model.specs.Operands.{digit_of};
@@ -15,10 +12,9 @@ ghost use Rattle.trace_model.specs.Reading.{head_at};
 ghost use Rattle.trace_reader.specs.Answers.{Gives};
 
 use crate::error::LineError;
-use crate::words::is_sign;
-use mem_base::limits::{
-    MAX_FILE, MAX_FRAME_LIMIT, MAX_LINE, MAX_LINES, MAX_NAME, MAX_PICKS, MAX_REACH, MAX_REFUSAL,
-};
+use line_text::is_name;
+pub(crate) use line_text::{is_file, number};
+use mem_base::limits::{MAX_FRAME_LIMIT, MAX_LINE, MAX_LINES, MAX_PICKS, MAX_REACH, MAX_REFUSAL};
 use mem_base::{KeyKind, Letter, List, Side};
 use std::alloc::Global;
 use trace_model::{Head, TraceCause};
@@ -37,42 +33,6 @@ pub fn head(word: &[u8]) -> Result<Head, TraceCause>
         }
     }
     Err(TraceCause::UnknownWord)
-}
-
-// The number with one more digit, where it fits.
-fn with_digit(value: u64, byte: u8) -> Option<u64>
-    ensures { result ≡ (let next = value * 10 + (byte - 48) in
-        if is_between 48 57 byte && nat_lt next (2 ^ 64) then Some next else None) }
-{
-    if byte < b'0' || byte > b'9' {
-        return None;
-    }
-    value.checked_mul(10)?.checked_add(u64::from(byte - b'0'))
-}
-
-// The number that the digits spell.
-fn digits(word: &[u8]) -> Result<u64, TraceCause>
-    ensures { result ≡ digits_from 0 word.now }
-{
-    let mut value = 0;
-    for byte in word {
-        match with_digit(value, *byte) {
-            Some(next) => value = next,
-            None => return Err(TraceCause::BadNumber),
-        }
-    }
-    Ok(value)
-}
-
-/// A number in decimal.
-pub fn number(word: &[u8]) -> Result<u64, TraceCause>
-    ensures { result ≡ number_at word.now }
-{
-    match word {
-        [] => Err(TraceCause::BadNumber),
-        [b'0', _, ..] => Err(TraceCause::BadNumber),
-        _ => digits(word),
-    }
 }
 
 // An offset from a block's data on.
@@ -184,44 +144,14 @@ pub fn times(word: &[u8]) -> Result<u32, TraceCause>
     Ok(value as u32)
 }
 
-fn is_name_byte(b: u8) -> bool
-    ensures { result ≡ is_name_byte b }
-{
-    matches!(b, b'0'..=b'9' | b'A'..=b'Z' | b'a'..=b'z' | b'_')
-}
-
-// Whether each byte may stand in a name.
-fn has_name_bytes(word: &[u8]) -> bool
-    ensures { result ≡ list_all is_name_byte word.now }
-{
-    word.iter().all(|b| is_name_byte(*b))
-}
-
 /// Whether the word is a name.
 pub fn name(word: &[u8]) -> Result<(), TraceCause>
     ensures { result ≡ name_at word.now }
 {
-    if word.is_empty() || word.len() > MAX_NAME {
-        return Err(TraceCause::BadName);
-    }
-    if !has_name_bytes(word) {
+    if !is_name(word) {
         return Err(TraceCause::BadName);
     }
     Ok(())
-}
-
-// Whether each byte may stand in the name of a file.
-fn has_signs(word: &[u8]) -> bool
-    ensures { result ≡ list_all is_file_byte word.now }
-{
-    word.iter().all(|b| is_sign(*b))
-}
-
-/// Whether the word may name a file, or be a pattern of such names.
-pub fn is_file(word: &[u8]) -> bool
-    ensures { result ≡ is_file word.now }
-{
-    !word.is_empty() && word.len() <= MAX_FILE && has_signs(word)
 }
 
 /// Whether the word is the name of a file.

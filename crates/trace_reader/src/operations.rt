@@ -9,7 +9,7 @@ ghost use Rattle.trace_model.specs.Operands.{is_forged};
 ghost use Rattle.trace_model.specs.Plain.{action_of, says, malloc_at, calloc_at, realloc_at, free_at};
 ghost use Rattle.trace_model.specs.Plain.{poke_at, peek_at, refuse_at, enter_at, go_to_at, start_tracing_at};
 ghost use Rattle.trace_model.specs.Plain.{mark_at, unmark_at, origin_at, snapshot_at, keep_at};
-ghost use Rattle.trace_model.specs.Plain.{stats_at, action_at};
+ghost use Rattle.trace_model.specs.Plain.{stats_at, compare_at, dump_at, action_at};
 ghost use Rattle.trace_model.specs.Known.{IsKnown, IsKnownOp};
 ghost use Rattle.trace_model.specs.declared.cause.TraceCause.TheVariants.{ForgedLetter};
 ghost use Rattle.trace_reader.specs.Answers.{Gives};
@@ -276,6 +276,43 @@ fn stats(
     Ok(Op::Stats(intern(texts, snapshot)?, key, cumulative, most))
 }
 
+#[tactic(auto, unfolding(trace_model::specs::Plain::compare_at))]
+fn compare(
+    texts: &mut Texts,
+    new: &[u8],
+    old: &[u8],
+    by: &[u8],
+    how: &[u8],
+    lines: &[u8],
+) -> Result<Op, LineError>
+    requires { length texts.old < 2 ^ 32 - 2 }
+    ensures grows { Extends texts.old texts.new }
+    ensures op { Gives (action_of texts.new) result (compare_at new.now old.now by.now how.now lines.now) }
+    ensures table { IfOk result (AddsTexts texts.old texts.new) }
+    ensures known { IfOk result (IsKnownOp texts.new) }
+{
+    name(new)?;
+    name(old)?;
+    let key = key(by)?;
+    let cumulative = mode(key, how)?;
+    let most = most(lines)?;
+    let new = intern(texts, new)?;
+    let old = intern(texts, old)?;
+    Ok(Op::Compare(new, old, key, cumulative, most))
+}
+
+#[tactic(auto, unfolding(trace_model::specs::Plain::dump_at))]
+fn dump(texts: &mut Texts, snapshot: &[u8]) -> Result<Op, LineError>
+    requires { length texts.old < 2 ^ 32 - 1 }
+    ensures grows { Extends texts.old texts.new }
+    ensures op { Gives (action_of texts.new) result (dump_at snapshot.now) }
+    ensures table { IfOk result (AddsTexts texts.old texts.new) }
+    ensures known { IfOk result (IsKnownOp texts.new) }
+{
+    name(snapshot)?;
+    Ok(Op::Dump(intern(texts, snapshot)?))
+}
+
 /// The operation that the words after the keyword name.
 #[tactic(auto, unfolding(trace_model::specs::Plain::action_at))]
 pub fn read_op(
@@ -317,7 +354,11 @@ pub fn read_op(
         (Keyword::Snapshot, [new]) => snapshot(texts, new),
         (Keyword::Keep, [new, old, words @ ..]) => keep(alloc, texts, new, old, words),
         (Keyword::Stats, [name, key, mode, most]) => stats(texts, name, key, mode, most),
-        // Another number of operands: of those that have none, one, two, three and four, and of the one
+        (Keyword::Compare, [new, old, key, mode, most]) => compare(
+            texts, new, old, key, mode, most,
+        ),
+        (Keyword::Dump, [name]) => dump(texts, name),
+        // Another number of operands: of those that have none, one, two, three, four and five, and of the one
         // that has rules behind two.
         (
             Keyword::Acquire
@@ -330,15 +371,15 @@ pub fn read_op(
             | Keyword::Heap,
             _,
         ) => Err(LineError::Wrong(TraceCause::BadWords)),
-        (Keyword::Line | Keyword::Start | Keyword::Where | Keyword::Snapshot, _) => {
-            Err(LineError::Wrong(TraceCause::BadWords))
-        }
+        (Keyword::Line | Keyword::Start | Keyword::Where | Keyword::Snapshot | Keyword::Dump, _) =>
+            Err(LineError::Wrong(TraceCause::BadWords)),
         (Keyword::Free | Keyword::Call | Keyword::Unmark | Keyword::Refuse, _) => {
             Err(LineError::Wrong(TraceCause::BadWords))
         }
         (Keyword::Malloc | Keyword::Realloc | Keyword::Poke | Keyword::Peek | Keyword::Mark, _) =>
             Err(LineError::Wrong(TraceCause::BadWords)),
         (Keyword::Calloc | Keyword::Stats, _) => Err(LineError::Wrong(TraceCause::BadWords)),
+        (Keyword::Compare, _) => Err(LineError::Wrong(TraceCause::BadWords)),
         (Keyword::Keep, _) => Err(LineError::Wrong(TraceCause::BadWords)),
     }
 }

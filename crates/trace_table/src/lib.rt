@@ -24,6 +24,6 @@ mod tests;
 mod tracing;
 
 pub use key::{TraceKey, TraceOf};
-pub use ranks::Ranks;
+pub use ranks::{Ranks, text_of};
 pub use snapshot::{Row, Snapshot};
 pub use tracing::{MarkError, Tracing};

@@ -33,8 +33,8 @@ impl Model for Ranks {
     ghost view = { λ r. r.places.items };
 }
 
-// The text with that number, and the empty one past the end.
-fn text_of(texts: &Texts, id: TextId) -> &[u8]
+/// The text with that number, and the empty one past the end.
+pub fn text_of(texts: &Texts, id: TextId) -> &[u8]
     ensures { result.now ≡ text_at texts.now id }
 {
     if (id.0 as usize) < texts.len() {

@@ -6,7 +6,7 @@ use Rattle.mem_base.specs.declared.reply.Frame.{Frame}
 use Rattle.trace_model.specs.Known.{IsKnown}
 use Rattle.trace_model.specs.Spelling.{blank}
 use Rattle.event_model.specs.Replies.{frame_of}
-use Rattle.report_model.specs.Report.{frame_word}
+use Rattle.dump_model.specs.Spelling.{frame_word}
 use Rattle.report_text.proofs.Pieces.{words_come_last}
 use Rattle.report_text.proofs.groups.push_key.Goals as goal
 

@@ -1,6 +1,6 @@
 use Rattle.std.proofs.Common.{◌≡◌, ◌++◌, drop}
 use Rattle.trace_model.specs.Operands.{hex_word}
-use Rattle.report_text.specs.Texts.{StaysInFront}
+use Rattle.line_text.specs.Texts.{StaysInFront}
 use Rattle.report_text.proofs.words.push_hex.Given as goal
 
 -- the digits so far, and those of the bytes left, are those of all, and the text before stands in front

@@ -20,4 +20,4 @@ returns-clause-sorted c =
     let plain = λ (s : Summed). plain_group c.args.texts.now (whole s) in
     let moved : List Summed = c.sort_unstable_by.new.self in
     let sorted = c.sort_unstable_by.ensures.sorted (λ a b. is_lt (group_cmp (plain b) (plain a))) (IsStrictWeakOrder-flip (λ a b. is_lt (group_cmp (plain a) (plain b))) (ranks_by group_cmp_total plain)) (always_returns_same _ _ _ (λ a r f k. search rules)) in
-    subst (AreInOrder c.args.texts.now) (sym c.in_ok-answer.ensures) (whole_in_order c.args.texts.now moved sorted)
+    subst (AreInOrder group_cmp (plain_group c.args.texts.now)) (sym c.in_ok-answer.ensures) (whole_in_order group_cmp whole (plain_group c.args.texts.now) moved sorted)

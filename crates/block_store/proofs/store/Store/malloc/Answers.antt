@@ -1,7 +1,7 @@
 use Rattle.std.proofs.Common.{◌≡◌, List, None, Option, get_or, sym, subst, ◌∙◌}
 use Rattle.block_model.specs.Block.{new_byte}
 use Rattle.debug_guard.specs.Guard.{Guard}
-use Rattle.event_model.specs.Memory.{malloc_call}
+use Rattle.event_model.specs.Deeds.{malloc_call}
 use Rattle.block_store.specs.Slots.{IsStore}
 use Rattle.block_store.specs.Store.{IsTurn, StoreView, sized_by, view_of}
 use Rattle.block_store.proofs.TurnLemmas.{slot_is, slots_length, none_where, made_turn, made_store}

@@ -2,7 +2,8 @@ use Rattle.std.proofs.Common.{◌≡◌, Option, Some, set, sym, ap, subst, ◌�
 use Rattle.block_model.specs.Block.{new_byte}
 use Rattle.debug_guard.specs.Guard.{Guard}
 use Rattle.layout_model.specs.Asks.{FitsRequest}
-use Rattle.event_model.specs.Memory.{realloc_call, sized_request}
+use Rattle.event_model.specs.Deeds.{realloc_call}
+use Rattle.event_model.specs.Memory.{sized_request}
 use Rattle.block_store.specs.Replies.{block_left, slots_with}
 use Rattle.block_store.specs.Slots.{IsStore}
 use Rattle.block_store.specs.Store.{IsTurn, StoreView, block_at, sized_by, view_of}

@@ -3,7 +3,7 @@ use Rattle.mem_base.specs.declared.trace.Op.TheVariants as ops
 use Rattle.mem_base.specs.declared.trace.Side.TheVariants as sides
 use Rattle.request_model.specs.Counts.{arena_asks, arena_refusals, raw_asks, raw_refusals}
 use Rattle.trace_model.specs.Plain.{IsKnownAmong}
-use Rattle.event_model.specs.Memory.{calloc_call, malloc_call, realloc_call}
+use Rattle.event_model.specs.Deeds.{calloc_call, malloc_call, realloc_call}
 use Rattle.event_model.specs.State.{is_owner}
 use Rattle.block_store.specs.declared.answer.Answer.{Answer}
 use Rattle.event_model.specs.Replies.{IsKnownReply}

@@ -152,3 +152,13 @@ pub returns-in_ok-reply-in-Stats-clause-acts : goal.returns-in_ok-reply-in-Stats
 returns-in_ok-reply-in-Stats-clause-acts c =
     subst (λ (o : Op). ActsAmong c.args.texts.now c.args.t o c.args.self.now c.args.self.now not_asked
     c.in_ok-reply-in-Stats.reply) (sym c.in-Stats.is) (c.in_ok-reply-in-Stats.ensures.acts c.args.t)
+
+pub returns-in_ok-reply-in-Compare-clause-acts : goal.returns-in_ok-reply-in-Compare-clause-acts
+returns-in_ok-reply-in-Compare-clause-acts c =
+    subst (λ (o : Op). ActsAmong c.args.texts.now c.args.t o c.args.self.now c.args.self.now not_asked
+    c.in_ok-reply-in-Compare.reply) (sym c.in-Compare.is) (c.in_ok-reply-in-Compare.ensures.acts c.args.t)
+
+pub returns-in_ok-reply-in-Dump-clause-acts : goal.returns-in_ok-reply-in-Dump-clause-acts
+returns-in_ok-reply-in-Dump-clause-acts c =
+    subst (λ (o : Op). ActsAmong c.args.texts.now c.args.t o c.args.self.now c.args.self.now not_asked
+    c.in_ok-reply-in-Dump.reply) (sym c.in-Dump.is) (c.in_ok-reply-in-Dump.ensures.acts c.args.t)

@@ -1,0 +1,5 @@
+pub mod Cause
+pub mod Spelling
+pub mod Operands
+pub mod Reading
+pub mod Laws

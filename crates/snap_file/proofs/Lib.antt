@@ -1,0 +1,7 @@
+mod Cuts
+mod Growth
+mod Joins
+mod LineSteps
+mod PushSteps
+mod RowSteps
+mod WordSteps
